@@ -1,0 +1,6 @@
+pub mod Bounds
+pub mod Floor
+pub mod Judged
+pub mod Products
+pub mod Ranges
+pub mod Sizes
