@@ -3,8 +3,17 @@ ghost use Prim.Native.Nat.{ℕ, _^_, _-_, _*_, _/_, _+_};
 ghost use lib.IntN.{pos, negsuc, natAbs, _+ℤ_, _*ℤ_};
 ghost use lib.Signed.{_<ℤ_, _≤ℤ_};
 ghost use mathlib.Core.Path.{_≡_};
+ghost use Rattle.std.specs.Numbers.{divEuclid};
 ghost use Rattle.compensation.specs.Division.{floor-div};
 ghost use Rattle.compensation.specs.Ranges.{Size};
+
+// Rust's Euclidean division: for a divisor above 0 it rounds down.
+fn euclidean(n: i64, d: i64) -> i64
+    requires { ⌜ pos 0 <ℤ d ⌝ }
+    ensures { λ r. ⌜ r ≡ divEuclid n d ⌝ }
+{
+    n.div_euclid(d)
+}
 
 // The greatest whole number not above the exact quotient n / d, for a divisor above 0.
 pub fn floor_over(n: i64, d: i64) -> i64
@@ -14,7 +23,7 @@ pub fn floor_over(n: i64, d: i64) -> i64
     ensures low { λ r. ⌜ (r *ℤ d) ≤ℤ n ⌝ }
     ensures high { λ r. ⌜ n <ℤ (r *ℤ d +ℤ d) ⌝ }
 {
-    n.div_euclid(d)
+    euclidean(n, d)
 }
 
 // The same for a divisor of either sign: n / d is (-n) / (-d).

@@ -10,10 +10,10 @@ pub returns : need.returns
 returns c =
     let fa = c .fits .n in
     let fn = c .fits .d in
-    let fr : SFits w64 (c .div-euclid .result) = record { sfits = c .div-euclid .ok } in
+    let fr : SFits w64 (c .euclidean .result) = record { sfits = c .euclidean .ok } in
     let e = over-positive (c .args .n) (c .args .d) (c .pre) in
-    let u = simp toZ-ofZ at (c .div-euclid .ensures) in
-    let v : c .div-euclid .result ≡ floor-div (c .args .n) (c .args .d) = cc in
+    let u = simp toZ-ofZ at (c .euclidean .ensures) in
+    let v : c .euclidean .result ≡ floor-div (c .args .n) (c .args .d) = cc in
     let law = above (c .args .n) (c .args .d) (c .pre) in
     record {
       value = simp toZ-ofZ v;
