@@ -16,7 +16,7 @@ fn euclidean(n: i64, d: i64) -> i64
 }
 
 // The greatest whole number not above the exact quotient n / d, for a divisor above 0.
-pub fn floor_over(n: i64, d: i64) -> i64
+pub(crate) fn floor_over(n: i64, d: i64) -> i64
     requires { ⌜ pos 0 <ℤ d ⌝ }
     ensures value { λ r. ⌜ r ≡ floor-div n d ⌝ }
     ensures bound { λ r. ⌜ ((m : ℕ) → Size m n → Size (m / natAbs d + 1) r) ⌝ }
@@ -27,7 +27,7 @@ pub fn floor_over(n: i64, d: i64) -> i64
 }
 
 // The same for a divisor of either sign: n / d is (-n) / (-d).
-pub fn floor_div(n: i64, d: i64) -> i64
+pub(crate) fn floor_div(n: i64, d: i64) -> i64
     requires { ⌜ (d ≡ pos 0 → ⊥) ⌝ }
     requires { ⌜ negsuc (2 ^ 63 - 1) <ℤ n ⌝ }
     requires { ⌜ negsuc (2 ^ 63 - 1) <ℤ d ⌝ }
@@ -43,7 +43,7 @@ pub fn floor_div(n: i64, d: i64) -> i64
 }
 
 // The product of two numbers of at most 30 bits.
-pub fn times(a: i64, b: i64) -> i64
+pub(crate) fn times(a: i64, b: i64) -> i64
     requires { ⌜ Size (2 ^ 30) a ⌝ }
     requires { ⌜ Size (2 ^ 30) b ⌝ }
     ensures value { λ r. ⌜ r ≡ a *ℤ b ⌝ }
@@ -55,7 +55,7 @@ pub fn times(a: i64, b: i64) -> i64
 }
 
 // a·b ÷ d for a divisor above 0.
-pub fn scaled(a: i64, b: i64, d: i64) -> i64
+pub(crate) fn scaled(a: i64, b: i64, d: i64) -> i64
     requires { ⌜ Size (2 ^ 30) a ⌝ }
     requires { ⌜ Size (2 ^ 30) b ⌝ }
     requires { ⌜ pos 0 <ℤ d ⌝ }

@@ -1,0 +1,5 @@
+pub mod Calls
+pub mod Causes
+pub mod FlashState
+pub mod Seen
+pub mod Shapes

@@ -1,0 +1,3 @@
+pub mod ImageBytes
+pub mod ImageStates
+pub mod ImageOpening

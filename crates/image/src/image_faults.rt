@@ -1,0 +1,32 @@
+// The image's fault: it has no layer below.
+ghost use lib.Chars.{codes};
+ghost use Rattle.flash.specs.Causes.{cause-number, cause-place};
+use flash::causes::Cause;
+use flash::causes::CauseDebug;
+use flash::causes::CausePartialEq;
+use flash::faults::FlashFault;
+
+#[derive(Clone, Copy, PartialEq, Eq, Debug)]
+pub struct ImageFault {
+    pub cause: Cause,
+}
+
+pub impl FlashFault for ImageFault as ImageFaultFlashFault {
+    ghost layer = { codes "image" };
+
+    ghost number = { λ e. cause-number (e .cause) };
+
+    ghost place = { λ e. cause-place (e .cause) };
+
+    fn number(&self) -> u8 {
+        self.cause.number()
+    }
+
+    fn layer(&self) -> &'static str {
+        "image"
+    }
+
+    fn place(&self) -> (usize, Option<usize>) {
+        self.cause.place()
+    }
+}

@@ -1,0 +1,3 @@
+pub mod Mirrored
+pub mod MirrorFaults
+pub mod MirrorSides

@@ -1,0 +1,4 @@
+pub mod Residues
+pub mod Shapes
+pub mod SimulatorStates
+pub mod Tables
