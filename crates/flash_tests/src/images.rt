@@ -13,7 +13,7 @@ use std::alloc::Global;
 use std::test::*;
 
 // One bank of three units: programmed, blank with bytes left in its value, unreadable. The supply is 5.
-pub fn three_units(charge: u8, power: u8) -> [u8; 44] {
+pub(crate) fn three_units(charge: u8, power: u8) -> [u8; 44] {
     [
         0x43,
         0x46,

@@ -7,7 +7,7 @@ use std::alloc::AllocError;
 use std::alloc::Global;
 
 // 2 banks of 4 units, on a table that was not blank.
-pub fn small(heap: Global) -> Result<Option<Simulator>, AllocError> {
+pub(crate) fn small(heap: Global) -> Result<Option<Simulator>, AllocError> {
     let table = vec![in heap; Unit::Unreadable; 8]?;
     match Simulator::new(2, 4, table) {
         Ok(s) => Ok(Some(s)),
@@ -15,7 +15,7 @@ pub fn small(heap: Global) -> Result<Option<Simulator>, AllocError> {
     }
 }
 
-pub fn entry(charge: u32, residue: u8, pattern: u64) -> Entry {
+pub(crate) fn entry(charge: u32, residue: u8, pattern: u64) -> Entry {
     Entry {
         charge,
         residue,
@@ -24,7 +24,7 @@ pub fn entry(charge: u32, residue: u8, pattern: u64) -> Entry {
 }
 
 // The number that a call was refused with, 0 where it was accepted.
-pub fn number<T: Drop, E: FlashFault + Drop>(answer: Result<T, E>) -> u8 {
+pub(crate) fn number<T: Drop, E: FlashFault + Drop>(answer: Result<T, E>) -> u8 {
     match answer {
         Ok(_) => 0,
         Err(e) => e.number(),
