@@ -1,0 +1,17 @@
+pub mod Growth
+pub mod Sound
+pub mod Faded
+pub mod Programs
+pub mod End
+pub mod Active
+pub mod Append
+pub mod Move
+pub mod Format
+pub mod Theorem
+pub mod Visible
+pub mod Gathering
+pub mod Opens
+pub mod Scanning
+pub mod Performing
+pub mod Charging
+pub mod Stretch

@@ -1,0 +1,10 @@
+pub mod Rows
+pub mod Names
+pub mod Checks
+pub mod Bytes
+pub mod Decoding
+pub mod WellFormed
+pub mod Paired
+pub mod Places
+pub mod Inserts
+pub mod Moves
