@@ -28,7 +28,7 @@ fn insert_at<T: Copy>(xs: &mut [T], len: usize, at: usize, x: T)
 }
 
 impl Table {
-    pub fn new() -> Table
+    pub(crate) fn new() -> Table
         ensures { λ r. ⌜ pairs-in r ≡ [] ⌝ ∗ ⌜ r .len ≡ 0 ⌝ }
     {
         Table {
@@ -39,7 +39,7 @@ impl Table {
     }
 
     // How many keys stand before this one.
-    pub fn place(&self, key: u8) -> usize
+    pub(crate) fn place(&self, key: u8) -> usize
         requires { ⌜ now self .len ≤ 13 ⌝ }
         ensures { λ r. ⌜ r ≡ place-of key (take (now (self .entry) .len) (now (self .entry) .keys)) ⌝ }
     {
@@ -51,7 +51,7 @@ impl Table {
         self.len
     }
 
-    pub fn find(&self, key: u8) -> Option<i32>
+    pub(crate) fn find(&self, key: u8) -> Option<i32>
         requires { ⌜ now self .len ≤ 13 ⌝ }
         ensures { λ r. ⌜ r ≡ value-of (pairs-in (now (self .entry))) key ⌝ }
     {
@@ -63,7 +63,7 @@ impl Table {
         None
     }
 
-    pub fn insert(&mut self, at: usize, pair: Pair)
+    pub(crate) fn insert(&mut self, at: usize, pair: Pair)
         requires within { ⌜ at ≤ now self .len ⌝ }
         requires room { ⌜ now self .len < 13 ⌝ }
         ensures pairs { λ _. ⌜ pairs-in (now (self .exit)) ≡ inserted (pairs-in (now (self .entry))) at pair ⌝ }
@@ -74,7 +74,7 @@ impl Table {
         self.len += 1;
     }
 
-    pub fn replace(&mut self, at: usize, pair: Pair)
+    pub(crate) fn replace(&mut self, at: usize, pair: Pair)
         requires within { ⌜ at < now self .len ⌝ }
         requires fits { ⌜ now self .len ≤ 13 ⌝ }
         ensures pairs { λ _. ⌜ pairs-in (now (self .exit)) ≡ set (pairs-in (now (self .entry))) at pair ⌝ }
@@ -85,7 +85,7 @@ impl Table {
     }
 
     // How many pairs there are.
-    pub fn count(&self) -> usize
+    pub(crate) fn count(&self) -> usize
         requires { ⌜ now self .len ≤ 13 ⌝ }
         ensures pairs { λ r. ⌜ r ≡ length (pairs-in (now (self .entry))) ⌝ }
         ensures len { λ r. ⌜ r ≡ now (self .entry) .len ⌝ }
@@ -94,7 +94,7 @@ impl Table {
     }
 
     // The pair at a place.
-    pub fn at(&self, i: usize) -> Pair
+    pub(crate) fn at(&self, i: usize) -> Pair
         requires few { ⌜ now self .len ≤ 13 ⌝ }
         requires within { ⌜ i < now self .len ⌝ }
         ensures { λ r. ⌜ r ≡ getD (pairs-in (now (self .entry))) i no-pair ⌝ }
@@ -106,7 +106,7 @@ impl Table {
     }
 
     // Adds a pair at its place in the order, or replaces the one of its key.
-    pub fn lay(&mut self, pair: Pair)
+    pub(crate) fn lay(&mut self, pair: Pair)
         requires few { ⌜ now self .len ≤ 13 ⌝ }
         requires room { ⌜ length (with-pair pair (pairs-in (now self))) ≤ 13 ⌝ }
         ensures pairs { λ _. ⌜ pairs-in (now (self .exit)) ≡ with-pair pair (pairs-in (now (self .entry))) ⌝ }
