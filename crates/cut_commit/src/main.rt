@@ -55,15 +55,18 @@ fn two_pairs(ac1: i32, b2: i32) -> Pairs {
     pairs
 }
 
-// Writes a change over what stands; false where a write was refused.
-fn write<F: Flash>(flash: &mut F, change: &Pairs) -> Result<bool, AnyError> {
+// Writes a change over what stands; the place of the write that was refused, if one was.
+fn write<F: Flash>(
+    flash: &mut F,
+    change: &Pairs,
+) -> Result<Option<(usize, Option<usize>)>, AnyError> {
     let Some(standing) = read_units(flash) else {
         return Err("nothing stands".into());
     };
     let number = standing.number.saturating_add(1);
     match write_change(flash, &standing, change, number) {
-        Ok(()) => Ok(true),
-        Err(_) => Ok(false),
+        Ok(()) => Ok(None),
+        Err(fault) => Ok(Some(fault.place())),
     }
 }
 
@@ -127,16 +130,13 @@ fn cut_at(rt: &LibcRuntime, before: u32, charge: u32, bank: usize) -> Result<(),
         let _ = write(&mut flash, &two_pairs(408, 4))?;
     }
     flash.power_up();
-    let whole = write(&mut flash, &two_pairs(500, 5))?;
+    let stopped = write(&mut flash, &two_pairs(500, 5))?;
     flash.power_up();
-    if whole {
-        println!(rt, "charge {charge}: all writes completed; bank {bank}")?;
-    } else {
-        println!(
-            rt,
-            "charge {charge}: write {} was cut; bank {bank}",
-            charge.saturating_add(1)
-        )?;
+    print!(rt, "charge {charge}: ")?;
+    match stopped {
+        None => println!(rt, "all writes completed")?,
+        Some((at, None)) => println!(rt, "cut in the erase of bank {at}")?,
+        Some((at, Some(unit))) => println!(rt, "cut at unit {unit} of bank {at}")?,
     }
     show_bank(rt, &flash, bank)?;
     match read_units(&flash) {

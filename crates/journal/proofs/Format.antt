@@ -68,10 +68,6 @@ module _ (size : ℕ) (bs : Banks) (two : 2 ≤ length bs) (enough : 64 ≤ size
   unfolding thrice
   thrice-1 = bank-other twice 0 1 (set (bank 0 twice) 0 (Programmed (header-value 0 0))) (omega arith) ∙ twice-1 ∙ blank-is
 
-  thrice-long : length thrice ≡ length bs
-  unfolding thrice
-  thrice-long = length-set twice 0 (set (bank 0 twice) 0 (Programmed (header-value 0 0))) ∙ twice-long
-
   pub format-ready : AllReady size formatting bs
   unfolding once twice
   format-ready =

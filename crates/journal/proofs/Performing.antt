@@ -6,13 +6,12 @@ use Prim.Native.Nat.{ℕ, zero, suc, _+_, _≤_, _<_}
 use native.Mathlib.Numerals.{add-one}
 use native.Mathlib.Omega.{arith}
 use lib.ListN.{length, drop, getD}
-use Rattle.std.specs.Results.{Cases}
 use Rattle.std.specs.declared.result.Result.{Result}
 use Rattle.std.specs.declared.result.Result.the-variants.{Ok, Err}
 use Rattle.std.proofs.shelf.Lists.{drop-more, drop-all, length-map}
 use Rattle.flash.specs.declared.faults.FlashFault.{Ghosts as FaultGhosts}
 use Rattle.flash.specs.FlashState.{FlashState}
-use Rattle.flash.specs.Calls.{ProgramDone, ProgramRefused, EraseDone, EraseRefused}
+use Rattle.flash.specs.Calls.{ProgramDone, ProgramRefused, EraseDone}
 use Rattle.journal.specs.Writes.{Write, program, erase, completed, StoppedAt, Performed, write-refusal}
 use Rattle.journal.specs.Commit.{programs, records, appending}
 use Rattle.std.specs.declared.option.Option.{Option}
@@ -32,13 +31,6 @@ module _ {F : Type 0} (t : FaultGhosts F) where
   -- what the flash's calls promise, as writes
   pub program-stopped : (s : FlashState) (b u v : ℕ) (s′ : FlashState) (e : F) → ProgramRefused t s b u v s′ e → StoppedAt t s (program b u v) s′ e
   program-stopped s b u v s′ e r = record {
-    why = r .why;
-    unchanged = r .unchanged;
-    cut = λ h. let x = r .cut h in record { units = _; allowed = (x .residue, x .allowed, refl); is = x .is };
-  }
-
-  pub erase-stopped : (s : FlashState) (b : ℕ) (s′ : FlashState) (e : F) → EraseRefused t s b s′ e → StoppedAt t s (erase b) s′ e
-  erase-stopped s b s′ e r = record {
     why = r .why;
     unchanged = r .unchanged;
     cut = λ h. let x = r .cut h in record { units = _; allowed = (x .residue, x .allowed, refl); is = x .is };
@@ -94,14 +86,6 @@ module _ {F : Type 0} (t : FaultGhosts F) where
   performed-short A B [] vs s s′ e p = absurd p
   performed-short A B (w ∷ ws) vs s s′ e (inl (z, p)) = inl (z, performed-short A B ws vs (completed s w) s′ e p)
   performed-short A B (w ∷ ws) vs s s′ e (inr x) = inr x
-
-  -- one write alone
-  abbrev pub One : {A : Type 0} → FlashState → Write → FlashState → Result A F → Type 0
-  One s w s′ r = Cases r (λ _. (write-refusal s w ≡ 0) × (s′ ≡ completed s w)) (StoppedAt t s w s′)
-
-  pub performed-one : {A : Type 0} (s : FlashState) (w : Write) (s′ : FlashState) (r : Result A F) → One s w s′ r → Performed t (w ∷ []) s s′ r
-  performed-one s w s′ (Ok a) x = inl (x .0, x .1)
-  performed-one s w s′ (Err e) x = inr x
 
 -- a completed program names a unit of a bank, and a bank has at most 4096
 pub program-inside : (s : FlashState) (b u : ℕ) → WellFormed s → program-refusal s b u ≡ 0 → u < 4096

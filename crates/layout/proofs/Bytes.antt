@@ -23,16 +23,3 @@ shl-or a j k b ha hw hb = ap (λ x. bitOr x b) (shl-whole a j k 64 ha (omega ari
 pub content-below : (m s w : ℕ) → m < 256 → s < 256 → w < 2 ^ 32 → content m s w < 2 ^ 48
 unfolding content
 content-below m s w hm hs hw = omega arith
-
-pub content-six : (m s w : ℕ) → m < 256 → s < 256 → w < 2 ^ 32 →
-    _≡_ {A = List ℕ} (m ∷ s ∷ w / 16777216 % 256 ∷ w / 65536 % 256 ∷ w / 256 % 256 ∷ w % 256 ∷ []) (six-bytes (content m s w))
-unfolding content
-content-six m s w hm hs hw =
-    let n = content m s w in
-    let b0 : m ≡ n / 1099511627776 % 256 = omega arith in
-    let b1 : s ≡ n / 4294967296 % 256 = omega arith in
-    let b2 : w / 16777216 % 256 ≡ n / 16777216 % 256 = omega arith in
-    let b3 : w / 65536 % 256 ≡ n / 65536 % 256 = omega arith in
-    let b4 : w / 256 % 256 ≡ n / 256 % 256 = omega arith in
-    let b5 : w % 256 ≡ n % 256 = omega arith in
-    cc

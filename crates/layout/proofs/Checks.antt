@@ -1,10 +1,8 @@
 -- A CRC has 16 bits.
-use mathlib.Core.List.{List, [], _∷_}
 use Prim.Native.Nat.{ℕ, _*_, _%_, _<_}
 use native.Mathlib.Omega.{arith}
 use lib.Bits.{bitXor}
 use lib.Dec.{ltb}
-use Rattle.std.specs.Iters.{folded}
 use Rattle.std.proofs.shelf.Tests.{cond-both, ltb-true}
 use Rattle.std.proofs.shelf.Bits.{xor-lt}
 use Rattle.layout.specs.Crc.{shift, feed, crc, shifts}
@@ -24,11 +22,3 @@ feed-below r b = shift-below (shifts 7 (bitXor r (b * 256)))
 pub crc-of-below : (n : ℕ) → crc-of n < 65536
 unfolding crc-of crc
 crc-of-below n = feed-below _ _
-
-pub folded-below : (r : ℕ) (bs : List ℕ) → r < 65536 → folded feed r bs < 65536
-folded-below r [] h = h
-folded-below r (b ∷ bs) h = folded-below (feed r b) bs (feed-below r b)
-
-pub crc-below : (bs : List ℕ) → crc bs < 65536
-unfolding crc
-crc-below bs = folded-below 0xffff bs (omega arith)

@@ -8,3 +8,4 @@ pub mod Paired
 pub mod Places
 pub mod Inserts
 pub mod Moves
+pub mod Lookups

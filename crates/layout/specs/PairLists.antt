@@ -1,5 +1,6 @@
 -- Lists of pairs of a key and a value.
 use Prim.Native.Nat.{ℕ}
+use mathlib.Core.Path.{_≡_}
 use mathlib.Core.Bool.{Bool, true, cond, _&&_}
 use mathlib.Core.List.{List, [], _∷_}
 use lib.Dec.{eqb, ltb}
@@ -59,3 +60,15 @@ with-pair p (q ∷ qs) = cond (ltb (q .key) (p .key)) (q ∷ with-pair p qs) (co
 -- the pairs of a change laid over others, one after the other
 abbrev pub merged : List Pair → List Pair → List Pair
 merged base change = folded (λ ps p. with-pair p ps) base change
+
+-- the first where it is there, else the second
+abbrev pub or-else : Option ℤ → Option ℤ → Option ℤ
+or-else None y = y
+or-else (Some v) y = Some v
+
+-- What the two mean for who looks a key up.
+pub record LookupLaws : Type 0 where
+  -- after a pair was laid over a list its own key has the new value, every other key the value that it had
+  pub laid : (p : Pair) (ps : List Pair) (q : ℕ) → value-of (with-pair p ps) q ≡ cond (eqb (p .key) q) (Some (p .value)) (value-of ps q)
+  -- after a change was laid over a list a key has the change's value, or where the change has none the value that it had
+  pub over : (base change : List Pair) (q : ℕ) → well-formed change ≡ true → value-of (merged base change) q ≡ or-else (value-of change q) (value-of base q)

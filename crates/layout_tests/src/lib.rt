@@ -1,4 +1,4 @@
-//! Tests of the units of the store.
+// Tests of the units of the store.
 #[cfg(test)]
 mod tests {
     use flash::units::Unit;
