@@ -9,3 +9,4 @@ pub mod Places
 pub mod Inserts
 pub mod Moves
 pub mod Lookups
+pub mod Written

@@ -1,7 +1,8 @@
 // The values of the store's units. Bytes b0 to b7, highest first: b0 is the mark, b1 a key or a count, b2 to b5 a value or a
 // number, b6 and b7 the CRC of b0 to b5.
 ghost use mathlib.Core.Path.{_≡_};
-ghost use Prim.Native.Nat.{_<_, _^_, _/_};
+ghost use Prim.Native.Nat.{ℕ, _<_, _^_, _/_};
+ghost use Rattle.layout.specs.declared.meanings.Meaning.the-variants.{Record, Commit, Header};
 ghost use Rattle.layout.specs.Contents.{crc-of, sealed, content};
 ghost use Rattle.layout.specs.Codec.{record-value, commit-value, header-value, as-record, as-commit, as-header, content-meaning, decoded, meaning-of};
 use crate::catalogue::admits;
@@ -42,23 +43,29 @@ fn seal(mark: u8, second: u8, word: u32) -> u64
     high | u64::from(content_crc(high))
 }
 
+// The value that is written for a record. It is read back as the pair, if that is admitted, and no other value is.
 pub fn encode_record(pair: Pair) -> u64
     ensures value { λ r. ⌜ r ≡ record-value pair ⌝ }
     ensures read_back { λ r. ⌜ decoded r ≡ as-record pair ⌝ }
+    ensures only { λ r. ⌜ ((v : ℕ) → decoded v ≡ Record pair → v ≡ r) ⌝ }
 {
     seal(RECORD, pair.key, pair.value.cast_unsigned())
 }
 
+// The value that is written for a commit; the same holds of it.
 pub fn encode_commit(count: u8, number: u32) -> u64
     ensures value { λ r. ⌜ r ≡ commit-value count number ⌝ }
     ensures read_back { λ r. ⌜ decoded r ≡ as-commit count number ⌝ }
+    ensures only { λ r. ⌜ ((v : ℕ) → decoded v ≡ Commit count number → v ≡ r) ⌝ }
 {
     seal(COMMIT, count, number)
 }
 
+// The value that is written for a header; the same holds of it.
 pub fn encode_header(count: u8, number: u32) -> u64
     ensures value { λ r. ⌜ r ≡ header-value count number ⌝ }
     ensures read_back { λ r. ⌜ decoded r ≡ as-header count number ⌝ }
+    ensures only { λ r. ⌜ ((v : ℕ) → decoded v ≡ Header count number → v ≡ r) ⌝ }
 {
     seal(HEADER, count, number)
 }
