@@ -7,8 +7,8 @@ pub returns-then-d-gt0 : goal.returns-then-d-gt0
 returns-then-d-gt0 c =
     let fn = c.ranges.n in
     let fd = c.ranges.d in
-    let fr : SFits w64 c.floor-over.result = record { sfits = c.floor-over.type-inv } in
-    let v = simp to_z-of_z at c.floor-over.ensures.value in
+    let fr : SFits w64 c.floor_over.result = record { sfits = c.floor_over.type_inv } in
+    let v = simp to_z-of_z at c.floor_over.ensures.value in
     record {
       value = simp to_z-of_z v;
       bound = λ m p. simp to_z-of_z (rw v (size_floor c.args.n c.args.d m p));
@@ -22,8 +22,8 @@ returns-else-d-gt0 c =
     let h : c.args.d <ℤ pos 0 = omega (arith, ints) in
     let nn : SFits w64 (pos 0 -ℤ c.args.n) = omega (arith, ints) in
     let nd : SFits w64 (pos 0 -ℤ c.args.d) = omega (arith, ints) in
-    let fr : SFits w64 c.floor-over-else-d-gt0.result = record { sfits = c.floor-over-else-d-gt0.type-inv } in
-    let turned = simp to_z-of_z at c.floor-over-else-d-gt0.ensures.value in
+    let fr : SFits w64 c.floor_over-else-d-gt0.result = record { sfits = c.floor_over-else-d-gt0.type_inv } in
+    let turned = simp to_z-of_z at c.floor_over-else-d-gt0.ensures.value in
     let v = turned ∙ over_negative c.args.n c.args.d h in
     record {
       value = simp to_z-of_z v;

@@ -8,7 +8,7 @@ pub returns : goal.returns
 returns c =
     let fa = c.ranges.n in
     let fn = c.ranges.d in
-    let fr : SFits w64 c.euclidean.result = record { sfits = c.euclidean.type-inv } in
+    let fr : SFits w64 c.euclidean.result = record { sfits = c.euclidean.type_inv } in
     let e = over_positive c.args.n c.args.d c.requires in
     let u = simp to_z-of_z at c.euclidean.ensures in
     let v : c.euclidean.result ≡ floor_div c.args.n c.args.d = cc in

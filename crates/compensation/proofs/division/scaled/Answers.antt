@@ -5,15 +5,15 @@ use Rattle.compensation.proofs.division.scaled.Goals as goal
 
 pub returns : goal.returns
 returns c =
-    let ft : SFits w64 c.times.result = record { sfits = c.times.type-inv } in
-    let fr : SFits w64 c.floor-over.result = record { sfits = c.floor-over.type-inv } in
+    let ft : SFits w64 c.times.result = record { sfits = c.times.type_inv } in
+    let fr : SFits w64 c.floor_over.result = record { sfits = c.floor_over.type_inv } in
     let fa = c.ranges.a in
     let fb = c.ranges.b in
     let fn = c.ranges.d in
-    let b = simp to_z-of_z at c.floor-over.ensures.bound in
+    let b = simp to_z-of_z at c.floor_over.ensures.bound in
     let d = simp to_z-of_z at c.times.ensures.bound in
     let v = simp to_z-of_z at c.times.ensures.value in
-    let w = simp to_z-of_z at c.floor-over.ensures.value in
+    let w = simp to_z-of_z at c.floor_over.ensures.value in
     record {
       value = simp to_z-of_z (cc);
       size = simp to_z-of_z (rw w (size_floor c.times.result c.args.d 1152921504606846976 c.times.ensures.size));

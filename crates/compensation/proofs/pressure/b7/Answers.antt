@@ -14,8 +14,8 @@ returns c =
     let fu = c.ranges.up in
     let f3 = c.ranges.b3 in
     let fs = c.ranges.samples in
-    let r1 : SFits w64 c.floor_div.result = record { sfits = c.floor_div.type-inv } in
-    let r2 : SFits w64 c.times.result = record { sfits = c.times.type-inv } in
+    let r1 : SFits w64 c.floor_div.result = record { sfits = c.floor_div.type_inv } in
+    let r2 : SFits w64 c.times.result = record { sfits = c.times.type_inv } in
     let d : Size 13600000 (c.args.up -ℤ c.args.b3) = omega (arith, ints) in
     let dpos : pos 0 ≤ℤ (c.args.up -ℤ c.args.b3) = omega (arith, ints) in
     let fd = fits_size 13600000 (c.args.up -ℤ c.args.b3) (lit< tt) d in

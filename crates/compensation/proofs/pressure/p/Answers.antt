@@ -10,7 +10,7 @@ returns-then-b7-lt2147483648 c =
     let f7 = c.ranges.b7 in
     let f4 = c.ranges.b4 in
     let fd : SFits w64 (c.args.b7 *ℤ pos 2) = omega (arith, ints) in
-    let fr : SFits w64 c.floor_div.result = record { sfits = c.floor_div.type-inv } in
+    let fr : SFits w64 c.floor_div.result = record { sfits = c.floor_div.type_inv } in
     let t = simp to_z-of_z at c.if-b7-lt2147483648.true in
     let v = simp to_z-of_z at c.floor_div.ensures.value in
     let s = simp to_z-of_z at c.floor_div.ensures.sign in
@@ -21,12 +21,12 @@ unfolding p_of
 returns-else-b7-lt2147483648 c =
     let f7 = c.ranges.b7 in
     let f4 = c.ranges.b4 in
-    let r = c.floor-div-else-b7-lt2147483648.result in
-    let fr : SFits w64 r = record { sfits = c.floor-div-else-b7-lt2147483648.type-inv } in
+    let r = c.floor_div-else-b7-lt2147483648.result in
+    let fr : SFits w64 r = record { sfits = c.floor_div-else-b7-lt2147483648.type_inv } in
     let t = simp to_z-of_z at c.if-b7-lt2147483648.false in
-    let v = simp to_z-of_z at c.floor-div-else-b7-lt2147483648.ensures.value in
-    let s = simp to_z-of_z at c.floor-div-else-b7-lt2147483648.ensures.sign in
-    let b = simp to_z-of_z at c.floor-div-else-b7-lt2147483648.ensures.bound in
+    let v = simp to_z-of_z at c.floor_div-else-b7-lt2147483648.ensures.value in
+    let s = simp to_z-of_z at c.floor_div-else-b7-lt2147483648.ensures.sign in
+    let b = simp to_z-of_z at c.floor_div-else-b7-lt2147483648.ensures.bound in
     let low : pos 0 ≤ℤ r = s c.requires.0.0 c.requires.1 in
     let size : Size 1000000000000 r = b 1000000000000 (omega (arith, ints)) in
     let fd : SFits w64 (r *ℤ pos 2) = omega (arith, ints) in

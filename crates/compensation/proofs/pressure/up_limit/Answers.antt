@@ -8,7 +8,7 @@ pub returns : goal.returns
 unfolding samples_of up_limit_of
 returns c =
     let fo = c.ranges.oss in
-    let r : SFits w64 c.samples.result = record { sfits = c.samples.type-inv } in
+    let r : SFits w64 c.samples.result = record { sfits = c.samples.type_inv } in
     let f : SFits w64 (pos 65536 *ℤ c.samples.result) = omega (arith, ints) in
     let v = simp to_z-of_z at c.samples.ensures.value in
     let e : pos 65536 *ℤ c.samples.result ≡ pos (2 ^ 16) *ℤ pos (2 ^ nat_abs c.args.oss) = ap (λ z. pos 65536 *ℤ z) v in

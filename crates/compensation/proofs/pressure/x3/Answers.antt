@@ -11,8 +11,8 @@ returns c =
     let fa = c.ranges.ac2 in
     let f6 = c.ranges.b6 in
     let fs = c.ranges.s in
-    let r1 : SFits w64 c.scaled.result = record { sfits = c.scaled.type-inv } in
-    let r2 : SFits w64 c.scaled-2.result = record { sfits = c.scaled-2.type-inv } in
+    let r1 : SFits w64 c.scaled.result = record { sfits = c.scaled.type_inv } in
+    let r2 : SFits w64 c.scaled-2.result = record { sfits = c.scaled-2.type_inv } in
     let b1 = simp to_z-of_z at c.scaled.ensures.bound in
     let b2 = simp to_z-of_z at c.scaled-2.ensures.bound in
     let s = size_sum 5440001 588289 c.scaled.result c.scaled-2.result (b1 32768 340000 c.requires.0 c.requires.3) (b2 32768 36768 c.requires.1 c.requires.2) in

@@ -12,17 +12,17 @@ returns c =
     let f1 = c.ranges.b1 in
     let f6 = c.ranges.b6 in
     let fs = c.ranges.s in
-    let r1 : SFits w64 c.scaled.result = record { sfits = c.scaled.type-inv } in
-    let r2 : SFits w64 c.scaled-2.result = record { sfits = c.scaled-2.type-inv } in
-    let r3 : SFits w64 c.floor-over.result = record { sfits = c.floor-over.type-inv } in
+    let r1 : SFits w64 c.scaled.result = record { sfits = c.scaled.type_inv } in
+    let r2 : SFits w64 c.scaled-2.result = record { sfits = c.scaled-2.type_inv } in
+    let r3 : SFits w64 c.floor_over.result = record { sfits = c.floor_over.type_inv } in
     let b1 = simp to_z-of_z at c.scaled.ensures.bound in
     let b2 = simp to_z-of_z at c.scaled-2.ensures.bound in
     let s : Size 317074 (c.scaled.result +ℤ c.scaled-2.result) = size_sum 147073 170001 c.scaled.result c.scaled-2.result (b1 32768 36768 c.requires.0 c.requires.2) (b2 32768 340000 c.requires.1 c.requires.3) in
     let t : Size 317076 (c.scaled.result +ℤ c.scaled-2.result +ℤ pos 2) = size_sum 317074 2 (c.scaled.result +ℤ c.scaled-2.result) (pos 2) s (omega (arith, ints)) in
     let fs2 = fits_size 317074 (c.scaled.result +ℤ c.scaled-2.result) (lit< tt) s in
     let ft = fits_size 317076 (c.scaled.result +ℤ c.scaled-2.result +ℤ pos 2) (lit< tt) t in
-    let b3 = simp to_z-of_z at c.floor-over.ensures.bound in
+    let b3 = simp to_z-of_z at c.floor_over.ensures.bound in
     let v1 = simp to_z-of_z at c.scaled.ensures.value in
     let v2 = simp to_z-of_z at c.scaled-2.ensures.value in
-    let v3 = simp to_z-of_z at c.floor-over.ensures.value in
-    record { value = simp to_z-of_z (cc); size = simp to_z-of_z (widen 79270 90000 c.floor-over.result (lit≤ tt) (b3 317076 t)) }
+    let v3 = simp to_z-of_z at c.floor_over.ensures.value in
+    record { value = simp to_z-of_z (cc); size = simp to_z-of_z (widen 79270 90000 c.floor_over.result (lit≤ tt) (b3 317076 t)) }

@@ -7,4 +7,4 @@ pub returns : goal.returns
 unfolding t_of
 returns c =
     let f : SFits w64 (c.args.b5 +ℤ pos 8) = omega (arith, ints) in
-    record { value = search (arith, ints, to_z-of_z, c.floor-over.ensures.value); low = omega (arith, ints); high = omega (arith, ints) }
+    record { value = search (arith, ints, to_z-of_z, c.floor_over.ensures.value); low = omega (arith, ints); high = omega (arith, ints) }

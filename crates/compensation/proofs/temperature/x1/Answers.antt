@@ -10,7 +10,7 @@ returns c =
     let fu = c.ranges.ut in
     let f5 = c.ranges.ac5 in
     let f6 = c.ranges.ac6 in
-    let r : SFits w64 c.scaled.result = record { sfits = c.scaled.type-inv } in
+    let r : SFits w64 c.scaled.result = record { sfits = c.scaled.type_inv } in
     let d = size_difference 65535 65535 c.args.ut c.args.ac6 (size_natural 65535 c.args.ut c.requires.0) c.requires.2 in
     let fd = fits_size 131070 (c.args.ut -ℤ c.args.ac6) (lit< tt) d in
     let b = simp to_z-of_z at c.scaled.ensures.bound in

@@ -11,7 +11,7 @@ returns c =
     let f1 = c.ranges.x1 in
     let fc = c.ranges.mc in
     let fd = c.ranges.md in
-    let r : SFits w64 c.floor_div.result = record { sfits = c.floor_div.type-inv } in
+    let r : SFits w64 c.floor_div.result = record { sfits = c.floor_div.type_inv } in
     let n = size_product c.args.mc (pos 2048) 32768 2048 c.requires.1 (size_constant 2048 2048 (lit≤ tt)) in
     let fn = fits_size 67108864 (c.args.mc *ℤ pos 2048) (lit< tt) n in
     let d = size_sum 262200 32768 c.args.x1 c.args.md c.requires.0 c.requires.2 in

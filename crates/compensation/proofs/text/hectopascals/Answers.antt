@@ -7,7 +7,7 @@ pub returns : goal.returns
 returns c =
     let fp = c.ranges.pa in
     let fw : SFits w64 c.args.pa = omega (arith, ints) in
-    let r : SFits w64 c.floor-over.result = record { sfits = c.floor-over.type-inv } in
-    let r32 : SFits w32 c.floor-over.result = omega (arith, ints) in
-    let v = simp to_z-of_z at c.floor-over.ensures.value in
+    let r : SFits w64 c.floor_over.result = record { sfits = c.floor_over.type_inv } in
+    let r32 : SFits w32 c.floor_over.result = omega (arith, ints) in
+    let v = simp to_z-of_z at c.floor_over.ensures.value in
     record { value = simp to_z-of_z v; division = record { above = above; below = below } }

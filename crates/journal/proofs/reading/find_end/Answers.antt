@@ -10,7 +10,7 @@ pub loop-unit-preserved : goal.loop-unit-preserved
 loop-unit-preserved g c =
     let us = bank c.args.bank (visible (seen g.F.Flash c.args.flash.now)) in
     let h : c.loop-unit.unit < length us = omega (arith, c.requires.long, c.loop-unit-test.true) in
-    c.end-with-end.ensures ∙ ap (λ n. end_with c.unit_of.result n c.loop-unit.unit) c.loop-unit.invariant
+    c.end_with-end.ensures ∙ ap (λ n. end_with c.unit_of.result n c.loop-unit.unit) c.loop-unit.invariant
     ∙ end_more us c.loop-unit.unit c.unit_of.result h c.unit_of.ensures
 
 pub returns : goal.returns

@@ -12,14 +12,14 @@ scan-log-requires g c =
     let s = seen g.F.Flash c.args.flash.now in
     let us = bank c.args.bank (visible s) in
     let h = bank_shown s c.args.bank (g.met.F.Flash.formed c.args.flash.now) (opening_units us (opening_at (meanings us) c.in-Some.start) (sym c.in-Some.ensures)) in
-    record { long = h.0 ∙ sym c.units-per-bank-units.ensures.count; few = omega (arith, h.1, c.units-per-bank-units.ensures.count) }
+    record { long = h.0 ∙ sym c.units_per_bank-units.ensures.count; few = omega (arith, h.1, c.units_per_bank-units.ensures.count) }
 
-pub find-end-end-requires : goal.find-end-end-requires
-find-end-end-requires g c =
+pub find_end-end-requires : goal.find_end-end-requires
+find_end-end-requires g c =
     let s = seen g.F.Flash c.args.flash.now in
     let us = bank c.args.bank (visible s) in
     let h = bank_shown s c.args.bank (g.met.F.Flash.formed c.args.flash.now) (opening_units us (opening_at (meanings us) c.in-Some.start) (sym c.in-Some.ensures)) in
-    record { long = h.0 ∙ sym c.units-per-bank-units.ensures.count; few = omega (arith, h.1, c.units-per-bank-units.ensures.count) }
+    record { long = h.0 ∙ sym c.units_per_bank-units.ensures.count; few = omega (arith, h.1, c.units_per_bank-units.ensures.count) }
 
 pub returns-in-Some : goal.returns-in-Some
 returns-in-Some g c =
@@ -28,7 +28,7 @@ returns-in-Some g c =
       active = c.args.bank;
       pairs = c.scan-log.ensures.pairs i;
       number = c.scan-log.ensures.number i;
-      end = c.find-end-end.ensures i;
+      end = c.find_end-end.ensures i;
     })
     ∙ ap (option_map (reading_in (visible s) c.args.bank)) c.in-Some.ensures
 

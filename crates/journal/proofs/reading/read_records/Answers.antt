@@ -30,12 +30,12 @@ loop-i-preserved g c =
     (gathered_more (drop c.args.from (meanings us)) c.args.count (pairs_of c.loop-i.pairs) c.loop-i.last c.loop-i.i c.loop-i.invariant
     c.in-Record.pair h (unit_meaning us c.args.from c.loop-i.i ∙ sym (ap meaning_of c.unit_of.ensures) ∙ sym c.in-Record.ensures) c.if-pair-last.false)
 
-pub returns-in-default : goal.returns-in-default
-returns-in-default g c =
+pub returns-in_default : goal.returns-in_default
+returns-in_default g c =
     let us = bank c.args.bank (visible (seen g.F.Flash c.args.flash.now)) in
     let h : c.loop-i.i < c.args.count = omega (arith, c.from-i-end.ensures, c.loop-i-test.true) in
     gathered_other (drop c.args.from (meanings us)) c.args.count (pairs_of c.loop-i.pairs) c.loop-i.last c.loop-i.i c.loop-i.invariant h
-    (λ p e. c.in-default.not-Record p (c.meaning.ensures ∙ ap meaning_of c.unit_of.ensures ∙ sym (unit_meaning us c.args.from c.loop-i.i) ∙ e))
+    (λ p e. c.in_default.not-Record p (c.meaning.ensures ∙ ap meaning_of c.unit_of.ensures ∙ sym (unit_meaning us c.args.from c.loop-i.i) ∙ e))
 
 pub returns : goal.returns
 returns g c =

@@ -10,7 +10,7 @@ unfolding reads
 returns-in-Some g c =
     let bs = visible (seen g.F.Flash c.args.flash.now) in
     record {
-      reading = c.read-bank.ensures ∙ ap (reads_bank bs) (c.in-Some.ensures ∙ (λ i. active_bank (c.header_number.ensures i) (c.header-number-2.ensures i)));
+      reading = c.read_bank.ensures ∙ ap (reads_bank bs) (c.in-Some.ensures ∙ (λ i. active_bank (c.header_number.ensures i) (c.header_number-2.ensures i)));
       run = run_stands_directly_before;
     }
 
@@ -19,6 +19,6 @@ unfolding reads
 returns-in-None g c =
     let bs = visible (seen g.F.Flash c.args.flash.now) in
     record {
-      reading = ap (reads_bank bs) (c.in-None.ensures ∙ (λ i. active_bank (c.header_number.ensures i) (c.header-number-2.ensures i)));
+      reading = ap (reads_bank bs) (c.in-None.ensures ∙ (λ i. active_bank (c.header_number.ensures i) (c.header_number-2.ensures i)));
       run = run_stands_directly_before;
     }

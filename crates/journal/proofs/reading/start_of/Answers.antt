@@ -19,7 +19,7 @@ returns-in-None g c =
     let us = bank c.args.bank (visible (seen g.F.Flash c.args.flash.now)) in
     opening_none us c.in-Header.count c.in-Header.number (c.in-Header.ensures ∙ ap meaning_of c.unit_of.ensures) c.in-None.ensures
 
-pub returns-in-default : goal.returns-in-default
-returns-in-default g c =
+pub returns-in_default : goal.returns-in_default
+returns-in_default g c =
     let us = bank c.args.bank (visible (seen g.F.Flash c.args.flash.now)) in
-    opening_rest us (λ k n e. c.in-default.not-Header k n (c.meaning.ensures ∙ ap meaning_of c.unit_of.ensures ∙ e))
+    opening_rest us (λ k n e. c.in_default.not-Header k n (c.meaning.ensures ∙ ap meaning_of c.unit_of.ensures ∙ e))

@@ -6,7 +6,7 @@ use Rattle.layout.specs.Held.{pairs_of}
 use Rattle.journal.specs.Commit.{records, programs}
 use Rattle.journal.proofs.Performing.{Onward, onward_none, row_more, row_stopped, row_end, program_inside, record_at, record_there}
 use Rattle.journal.proofs.writers.program_records.Goals as goal
-use Rattle.journal.proofs.writers.program_records.Goals.{in-Some+in-Ok, in-default}
+use Rattle.journal.proofs.writers.program_records.Goals.{in-Some+in-Ok, in_default}
 
 pub loop-i-init : goal.loop-i-init
 loop-i-init g c = (
@@ -14,8 +14,8 @@ loop-i-init g c = (
   onward_none g.Fault.FlashFault ℕ (records c.args.bank c.args.from (pairs_of c.args.pairs.now)) (seen g.F.Flash c.args.flash.now),
 )
 
-pub overflow-add-at : goal.overflow-add-at
-overflow-add-at g c =
+pub overflow_add-at : goal.overflow_add-at
+overflow_add-at g c =
     record { fits = omega (arith, program_inside (seen g.F.Flash c.loop-i.flash) c.args.bank c.loop-i.at (g.met.F.Flash.formed c.loop-i.flash) c.in-Ok.ensures.programs.accepted) }
 
 pub returns-in-Err : goal.returns-in-Err
@@ -26,8 +26,8 @@ returns-in-Err g c =
     record {
       writes =
           row_stopped g.Fault.FlashFault ℕ (records c.args.bank c.args.from ps) (seen g.F.Flash c.args.flash.now) c.args.bank c.loop-i.at (map record_value ps) c.loop-i.i
-          (seen g.F.Flash c.loop-i.flash) (seen g.F.Flash c.program.new.self) h' c.encode-record.result
-          (record_at ps c.loop-i.i c.in-Some.pair h c.in-Some.ensures ∙ sym c.encode-record.ensures.value) c.loop-i.invariant.1 c.in-Err.fault c.in-Err.ensures.programs;
+          (seen g.F.Flash c.loop-i.flash) (seen g.F.Flash c.program.new.self) h' c.encode_record.result
+          (record_at ps c.loop-i.i c.in-Some.pair h c.in-Some.ensures ∙ sym c.encode_record.ensures.value) c.loop-i.invariant.1 c.in-Err.fault c.in-Err.ensures.programs;
       next = tt;
     }
 
@@ -43,10 +43,10 @@ loop-i-preserved g c =
         omega (arith, w.at-is, c.loop-i.invariant.0),
         subst (λ f. Onward g.Fault.FlashFault ℕ ws s (programs c.args.bank c.match-at.at (drop (c.loop-i.i + 1) (map record_value ps))) (seen g.F.Flash f)) (sym w.flash-is)
             (subst (λ u. Onward g.Fault.FlashFault ℕ ws s (programs c.args.bank u (drop (c.loop-i.i + 1) (map record_value ps))) (seen g.F.Flash w.program.new.self)) (sym w.at-is)
-            (row_more g.Fault.FlashFault ℕ ws s c.args.bank c.loop-i.at (map record_value ps) c.loop-i.i (seen g.F.Flash c.loop-i.flash) (seen g.F.Flash w.program.new.self) h' w.encode-record.result
-            (record_at ps c.loop-i.i w.in-Some.pair h w.in-Some.ensures ∙ sym w.encode-record.ensures.value) c.loop-i.invariant.1 w.in-Ok.ensures.programs)),
+            (row_more g.Fault.FlashFault ℕ ws s c.args.bank c.loop-i.at (map record_value ps) c.loop-i.i (seen g.F.Flash c.loop-i.flash) (seen g.F.Flash w.program.new.self) h' w.encode_record.result
+            (record_at ps c.loop-i.i w.in-Some.pair h w.in-Some.ensures ∙ sym w.encode_record.ensures.value) c.loop-i.invariant.1 w.in-Ok.ensures.programs)),
       )
-      | in-default w ↦ absurd (record_there ps c.loop-i.i c.at.result h c.at.ensures w.in-default.not-Some)
+      | in_default w ↦ absurd (record_there ps c.loop-i.i c.at.result h c.at.ensures w.in_default.not-Some)
     ]
 
 pub returns : goal.returns

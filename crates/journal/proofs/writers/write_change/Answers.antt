@@ -7,8 +7,8 @@ use Rattle.journal.specs.Commit.{commit_writes}
 use Rattle.journal.proofs.Charging.{commit_outcome}
 use Rattle.journal.proofs.writers.write_change.Goals as goal
 
-pub returns-then-is-room : goal.returns-then-is-room
-returns-then-is-room g c =
+pub returns-then-is_room : goal.returns-then-is_room
+returns-then-is_room g c =
     let t = g.Fault.FlashFault in
     let s = seen g.F.Flash c.args.flash.now in
     let s' = seen g.F.Flash c.append.new.flash in
@@ -20,8 +20,8 @@ returns-then-is-room g c =
       whole_or_absent = commit_outcome t s (g.met.F.Flash.formed c.args.flash.now) r ps c.args.number s' c.append.result c.args.change.now.ok c.ranges.number.fits w;
     }
 
-pub returns-else-is-room : goal.returns-else-is-room
-returns-else-is-room g c =
+pub returns-else-is_room : goal.returns-else-is_room
+returns-else-is_room g c =
     let t = g.Fault.FlashFault in
     let s = seen g.F.Flash c.args.flash.now in
     let s' = seen g.F.Flash c.rewrite.new.flash in

@@ -10,14 +10,14 @@ loop-i-init c = refl
 
 pub loop-i-preserved : goal.loop-i-preserved
 loop-i-preserved c =
-    let n : c.row-at-row.result.name.now ≡ get_or names c.loop-i.i [] = ap (λ s. s.1) c.row-at-row.ensures in
+    let n : c.row_at-row.result.name.now ≡ get_or names c.loop-i.i [] = ap (λ s. s.1) c.row_at-row.ensures in
     c.loop-i.invariant ∙ name_again names c.args.name.now c.loop-i.i (omega arith)
     (λ e. both_ways c.eq.result c.if-eq.false (c.eq.ensures.1 (n ∙ e)))
 
 pub returns-then-eq : goal.returns-then-eq
 returns-then-eq c =
-    let n : c.row-at-row.result.name.now ≡ get_or names c.loop-i.i [] = ap (λ s. s.1) c.row-at-row.ensures in
-    ap (λ s. s.0) c.row-at-row.ensures
+    let n : c.row_at-row.result.name.now ≡ get_or names c.loop-i.i [] = ap (λ s. s.1) c.row_at-row.ensures in
+    ap (λ s. s.0) c.row_at-row.ensures
     ∙ sym (c.loop-i.invariant ∙ name_found names c.args.name.now c.loop-i.i (omega arith) (sym n ∙ c.eq.ensures.0 c.if-eq.true))
 
 pub returns : goal.returns

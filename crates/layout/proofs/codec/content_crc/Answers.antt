@@ -7,4 +7,4 @@ use Rattle.layout.proofs.codec.content_crc.Goals as goal
 pub returns : goal.returns
 unfolding crc_of
 returns c =
-    c.crc16.ensures ∙ ap (λ xs. crc (take 6 xs)) c.to-be-bytes.ensures ∙ ap crc (high_six c.args.value)
+    c.crc16.ensures ∙ ap (λ xs. crc (take 6 xs)) c.to_be_bytes.ensures ∙ ap crc (high_six c.args.value)

@@ -13,5 +13,5 @@ returns c =
     let f : SFits w32 p.value = search rules in
     let k : p.key < 256 = search rules in
     let e : c.seal.result ≡ record_value p =
-    c.seal.ensures ∙ ap (λ x. sealed (content 0x52 p.key x)) (c.cast-unsigned.ensures ∙ ap (of_z w32) (to_z-of_z w32 p.value f)) in
+    c.seal.ensures ∙ ap (λ x. sealed (content 0x52 p.key x)) (c.cast_unsigned.ensures ∙ ap (of_z w32) (to_z-of_z w32 p.value f)) in
     record { value = e; read_back = ap decoded e ∙ decoded_record p k f; only = λ v d. only_record p v d ∙ sym e }

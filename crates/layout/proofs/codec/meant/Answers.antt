@@ -10,7 +10,7 @@ pub returns-in-82 : goal.returns-in-82
 returns-in-82 c =
     let s = and_mask (c.args.high / 4294967296) 8 in
     let w = and_mask c.args.high 32 in
-    let z = to_z-of_z w32 c.cast-signed.result (record { sfits = c.cast-signed.type-inv }) in
+    let z = to_z-of_z w32 c.cast_signed.result (record { sfits = c.cast_signed.type_inv }) in
     let e = content_record c.args.high c.in-82.is in
     cc
 
@@ -28,6 +28,6 @@ returns-in-72 c =
     let e = content_header c.args.high c.in-72.is in
     cc
 
-pub returns-in-default : goal.returns-in-default
+pub returns-in_default : goal.returns-in_default
 unfolding content_meaning
-returns-in-default c = grind (arith, nat_tests)
+returns-in_default c = grind (arith, nat_tests)

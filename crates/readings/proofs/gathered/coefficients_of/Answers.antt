@@ -11,17 +11,17 @@ kept {v} {z} fits e = to_z-of_z w64 v (record { sfits = fits }) ∙ e
 pub returns : goal.returns
 unfolding coefficients_of
 returns c =
-    let ac1 = kept c.value_or_zero.type-inv c.value_or_zero.ensures in
-    let ac2 = kept c.value-or-zero-2.type-inv c.value-or-zero-2.ensures in
-    let ac3 = kept c.value-or-zero-3.type-inv c.value-or-zero-3.ensures in
-    let ac4 = kept c.value-or-zero-4.type-inv c.value-or-zero-4.ensures in
-    let ac5 = kept c.value-or-zero-5.type-inv c.value-or-zero-5.ensures in
-    let ac6 = kept c.value-or-zero-6.type-inv c.value-or-zero-6.ensures in
-    let b1 = kept c.value-or-zero-7.type-inv c.value-or-zero-7.ensures in
-    let b2 = kept c.value-or-zero-8.type-inv c.value-or-zero-8.ensures in
-    let mb = kept c.value-or-zero-9.type-inv c.value-or-zero-9.ensures in
-    let mc = kept c.value-or-zero-10.type-inv c.value-or-zero-10.ensures in
-    let md = kept c.value-or-zero-11.type-inv c.value-or-zero-11.ensures in
-    let oss = kept c.value-or-zero-12.type-inv c.value-or-zero-12.ensures in
-    let pcor = kept c.value-or-zero-13.type-inv c.value-or-zero-13.ensures in
+    let ac1 = kept c.value_or_zero.type_inv c.value_or_zero.ensures in
+    let ac2 = kept c.value_or_zero-2.type_inv c.value_or_zero-2.ensures in
+    let ac3 = kept c.value_or_zero-3.type_inv c.value_or_zero-3.ensures in
+    let ac4 = kept c.value_or_zero-4.type_inv c.value_or_zero-4.ensures in
+    let ac5 = kept c.value_or_zero-5.type_inv c.value_or_zero-5.ensures in
+    let ac6 = kept c.value_or_zero-6.type_inv c.value_or_zero-6.ensures in
+    let b1 = kept c.value_or_zero-7.type_inv c.value_or_zero-7.ensures in
+    let b2 = kept c.value_or_zero-8.type_inv c.value_or_zero-8.ensures in
+    let mb = kept c.value_or_zero-9.type_inv c.value_or_zero-9.ensures in
+    let mc = kept c.value_or_zero-10.type_inv c.value_or_zero-10.ensures in
+    let md = kept c.value_or_zero-11.type_inv c.value_or_zero-11.ensures in
+    let oss = kept c.value_or_zero-12.type_inv c.value_or_zero-12.ensures in
+    let pcor = kept c.value_or_zero-13.type_inv c.value_or_zero-13.ensures in
     cc

@@ -9,5 +9,5 @@ pub unwrap-requires : goal.unwrap-requires
 unwrap-requires c =
     let pairs = c.args.pairs.now in
     let v = c.coefficients_of.result in
-    let yes : admitted_set v ≡ true = ap admitted_set c.coefficients_of.ensures ∙ gathered_admitted (pairs_of pairs) (sym c.in-default.ensures) pairs.ok in
+    let yes : admitted_set v ≡ true = ap admitted_set c.coefficients_of.ensures ∙ gathered_admitted (pairs_of pairs) (sym c.in_default.ensures) pairs.ok in
     some_since c.new.result (admitted_set v ≡ false) (λ k. (admitted_set v ≡ true) × (k.values ≡ v)) c.new.ensures (λ no. both_ways (admitted_set v) no yes)

@@ -7,12 +7,12 @@ use Rattle.readings.proofs.gathered.lowest_absent.Goals as goal
 pub loop-key-preserved : goal.loop-key-preserved
 loop-key-preserved c =
     c.loop-key.invariant
-    ∙ goes_on (pairs_of c.args.pairs.now) 12 c.loop-key.key (omega arith) (ap is_some (sym c.value.ensures) ∙ c.if-is-none.ensures)
+    ∙ goes_on (pairs_of c.args.pairs.now) 12 c.loop-key.key (omega arith) (ap is_some (sym c.value.ensures) ∙ c.if-is_none.ensures)
 
-pub returns-then-is-none : goal.returns-then-is-none
-returns-then-is-none c =
+pub returns-then-is_none : goal.returns-then-is_none
+returns-then-is_none c =
     sym (c.loop-key.invariant
-    ∙ stops (pairs_of c.args.pairs.now) 12 c.loop-key.key (omega arith) (ap is_some (sym c.value.ensures) ∙ c.if-is-none.ensures))
+    ∙ stops (pairs_of c.args.pairs.now) 12 c.loop-key.key (omega arith) (ap is_some (sym c.value.ensures) ∙ c.if-is_none.ensures))
 
 pub returns : goal.returns
 returns c =

@@ -6,7 +6,7 @@ use Rattle.runs.proofs.hands.keep.Goals as goal
 pub returns : goal.returns
 returns c =
     record {
-      kept = ap ticket_numbers c.push-reserved.ensures.items ∙ map-append ticket_number (vec_items c.args.tickets.now) (c.args.ticket ∷ []);
-      more = omega (arith, c.push-reserved.ensures.len);
-      room = c.push-reserved.ensures.capacity;
+      kept = ap ticket_numbers c.push_reserved.ensures.items ∙ map-append ticket_number (vec_items c.args.tickets.now) (c.args.ticket ∷ []);
+      more = omega (arith, c.push_reserved.ensures.len);
+      room = c.push_reserved.ensures.capacity;
     }

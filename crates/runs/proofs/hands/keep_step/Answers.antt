@@ -6,7 +6,7 @@ use Rattle.runs.proofs.hands.keep_step.Goals as goal
 pub returns : goal.returns
 returns c =
     record {
-      kept = ap step_numbers c.push-reserved.ensures.items ∙ map-append numbers_in (vec_items c.args.steps.now) (Some c.args.step ∷ []);
-      more = omega (arith, c.push-reserved.ensures.len);
-      room = c.push-reserved.ensures.capacity;
+      kept = ap step_numbers c.push_reserved.ensures.items ∙ map-append numbers_in (vec_items c.args.steps.now) (Some c.args.step ∷ []);
+      more = omega (arith, c.push_reserved.ensures.len);
+      room = c.push_reserved.ensures.capacity;
     }

@@ -7,7 +7,7 @@ returns-then-place-len c =
     let ss = vec_items c.args.steps.now in
     record {
       taken = taken_at ss c.args.place c.take.result _ c.take.new.self (omega (arith, c.args.steps.now.ok.0, c.if-place-len.true, c.len.ensures))
-          (c.take.ensures.value ∙ c.index-mut.ensures.value) c.take.ensures.after;
+          (c.take.ensures.value ∙ c.index_mut.ensures.value) c.take.ensures.after;
       same = refl;
       room = refl;
     }

@@ -31,11 +31,11 @@ loop-hand-preserved g c =
     let does : Does n (abandoned j c.abandon-answer.result) m' =
     subst (λ (x : ℕ). Does n (abandoned x c.abandon-answer.result) m') (sym c.number-number.ensures) c.abandon-answer.ensures.does in (
       gone ++ j ∷ [],
-      made_more (Abandon j) (Some (abandoned j c.abandon-answer.result)) m' (held us ss) (map abandoning (gone ++ j ∷ [])) (vec_items c.push-reserved.new.self) inv.1
-          (abandon_turn n m' ts us ss j c.abandon-answer.result out does) (map-append abandoning gone (j ∷ [])) c.push-reserved.ensures.items,
+      made_more (Abandon j) (Some (abandoned j c.abandon-answer.result)) m' (held us ss) (map abandoning (gone ++ j ∷ [])) (vec_items c.push_reserved.new.self) inv.1
+          (abandon_turn n m' ts us ss j c.abandon-answer.result out does) (map-append abandoning gone (j ∷ [])) c.push_reserved.ensures.items,
       inv.2 ∙ ap (λ (x : List ℕ). gone ++ x) out ∙ sym (append_assoc gone (j ∷ []) us),
       inv.3,
-      omega (arith, inv.4, c.push-reserved.ensures.len, c.push-reserved.ensures.capacity, c.remove-ticket.ensures.len),
+      omega (arith, inv.4, c.push_reserved.ensures.len, c.push_reserved.ensures.capacity, c.remove-ticket.ensures.len),
     )
 
 pub returns : goal.returns

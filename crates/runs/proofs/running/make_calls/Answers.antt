@@ -10,15 +10,15 @@ use Rattle.runs.proofs.running.make_calls.Goals as goal
 pub returns : goal.returns
 returns g c =
     let m = moment g.F.Flash c.args.store.now in
-    let n = moment g.F.Flash c.take-up.new.store in
-    let m' = moment g.F.Flash c.abandon-each.new.store in
+    let n = moment g.F.Flash c.take_up.new.store in
+    let m' = moment g.F.Flash c.abandon_each.new.store in
     let qs = c.args.requests.now in
     let room = c.args.room in
-    let i = held_by c.take-up.new.hand in
+    let i = held_by c.take_up.new.hand in
     let none : held (ticket_numbers (vec_items room.tickets)) (step_numbers (vec_items room.steps)) ≡ nothing_held =
     λ k. held (ticket_numbers (room.no_tickets k)) (step_numbers (room.no_steps k)) in
-    let made : Made m nothing_held (take c.min-count.result qs) (vec_items room.log) (vec_items c.take-up.new.log) n i =
-    subst (λ (h : Held). Made m h (take c.min-count.result qs) (vec_items room.log) (vec_items c.take-up.new.log) n i) none c.take-up.ensures.made in
-    run_made m n m' (take room.most qs) i (vec_items room.log) (vec_items c.take-up.new.log) (vec_items c.abandon-each.new.log) room.no_log
-    (subst (λ (x : List Request). Made m nothing_held x (vec_items room.log) (vec_items c.take-up.new.log) n i) (take_least qs room.most c.min-count.result c.min-count.ensures) made)
-    c.abandon-each.ensures.made
+    let made : Made m nothing_held (take c.min-count.result qs) (vec_items room.log) (vec_items c.take_up.new.log) n i =
+    subst (λ (h : Held). Made m h (take c.min-count.result qs) (vec_items room.log) (vec_items c.take_up.new.log) n i) none c.take_up.ensures.made in
+    run_made m n m' (take room.most qs) i (vec_items room.log) (vec_items c.take_up.new.log) (vec_items c.abandon_each.new.log) room.no_log
+    (subst (λ (x : List Request). Made m nothing_held x (vec_items room.log) (vec_items c.take_up.new.log) n i) (take_least qs room.most c.min-count.result c.min-count.ensures) made)
+    c.abandon_each.ensures.made

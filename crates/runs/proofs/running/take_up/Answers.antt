@@ -16,10 +16,10 @@ loop-request-preserved g c =
     let left : length qs - i ≡ suc (length qs - (i + 1)) = omega (arith, c.loop-request-test.true) in
     let room = c.turn-outcome.ensures.room (length qs - (i + 1)) (subst (λ (n : ℕ). Spare n c.loop-request.hand) left inv.1) in (
       made_more (get_or qs i Recover) c.turn-outcome.result (moment g.F.Flash c.turn-outcome.new.store) (held_by c.turn-outcome.new.hand) (take (i + 1) qs)
-          (vec_items c.push-reserved.new.self) inv.0 c.turn-outcome.ensures.turn (take_more qs i Recover c.loop-request-test.true) c.push-reserved.ensures.items,
+          (vec_items c.push_reserved.new.self) inv.0 c.turn-outcome.ensures.turn (take_more qs i Recover c.loop-request-test.true) c.push_reserved.ensures.items,
       room,
-      omega (arith, c.push-reserved.ensures.len, inv.2),
-      c.push-reserved.ensures.capacity ∙ inv.3,
+      omega (arith, c.push_reserved.ensures.len, inv.2),
+      c.push_reserved.ensures.capacity ∙ inv.3,
       omega (arith, c.turn-outcome.ensures.few, inv.4),
     )
 

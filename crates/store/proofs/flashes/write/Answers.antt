@@ -14,7 +14,7 @@ pub returns-in-Ok : goal.returns-in-Ok
 returns-in-Ok g c =
     let t = g.Fault.FlashFault in
     let s = seen g.F.Flash c.args.flash.now in
-    let s' = seen g.F.Flash c.write-change.new.flash in
+    let s' = seen g.F.Flash c.write_change.new.flash in
     let r = reading_of c.args.standing.now in
     let ps = pairs_of c.args.change.now in
     commit_run t s r ps s' (Ok c.in-Ok.field-0)
@@ -25,7 +25,7 @@ pub returns-in-Err : goal.returns-in-Err
 returns-in-Err g c =
     let t = g.Fault.FlashFault in
     let s = seen g.F.Flash c.args.flash.now in
-    let s' = seen g.F.Flash c.write-change.new.flash in
+    let s' = seen g.F.Flash c.write_change.new.flash in
     let r = reading_of c.args.standing.now in
     let ps = pairs_of c.args.change.now in
     subst (λ (x : ℕ × Option ℕ). CommitRun s r ps (Err (WriteStopped x)) s') (sym c.place.ensures)

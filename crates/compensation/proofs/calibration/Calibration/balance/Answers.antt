@@ -11,7 +11,7 @@ x3-x3-requires c =
     let f1 = fits_size 32768 k.b2 (lit< tt) b.b2 in
     let f2 = fits_size 32768 k.ac2 (lit< tt) b.ac2 in
     let f6 = c.ranges.b6 in
-    let rs : SFits w64 c.s-s.result = record { sfits = c.s-s.type-inv } in
+    let rs : SFits w64 c.s-s.result = record { sfits = c.s-s.type_inv } in
     simp to_z-of_z (b.b2, b.ac2, c.requires, c.s-s.ensures.size)
 
 pub samples-requires : goal.samples-requires
@@ -27,8 +27,8 @@ b3-b3-requires c =
     let k = c.args.self.now.values in
     let b = bounded k c.args.self.now.admitted in
     let f1 = fits_size 32768 k.ac1 (lit< tt) b.ac1 in
-    let r3 : SFits w64 c.x3-x3.result = record { sfits = c.x3-x3.type-inv } in
-    let rs : SFits w64 c.samples.result = record { sfits = c.samples.type-inv } in
+    let r3 : SFits w64 c.x3-x3.result = record { sfits = c.x3-x3.type_inv } in
+    let rs : SFits w64 c.samples.result = record { sfits = c.samples.type_inv } in
     simp to_z-of_z (b.ac1, c.x3-x3.ensures.size, c.samples.ensures.range)
 
 pub y3-y3-requires : goal.y3-y3-requires
@@ -38,7 +38,7 @@ y3-y3-requires c =
     let f3 = fits_size 32768 k.ac3 (lit< tt) b.ac3 in
     let f1 = fits_size 32768 k.b1 (lit< tt) b.b1 in
     let f6 = c.ranges.b6 in
-    let rs : SFits w64 c.s-s.result = record { sfits = c.s-s.type-inv } in
+    let rs : SFits w64 c.s-s.result = record { sfits = c.s-s.type_inv } in
     simp to_z-of_z (b.ac3, b.b1, c.requires, c.s-s.ensures.size)
 
 pub b4-b4-requires : goal.b4-b4-requires
@@ -46,7 +46,7 @@ b4-b4-requires c =
     let k = c.args.self.now.values in
     let b = bounded k c.args.self.now.admitted in
     let f4 = fits_size 65535 k.ac4 (lit< tt) b.ac4 in
-    let r3 : SFits w64 c.y3-y3.result = record { sfits = c.y3-y3.type-inv } in
+    let r3 : SFits w64 c.y3-y3.result = record { sfits = c.y3-y3.type_inv } in
     simp to_z-of_z (b.ac4, c.y3-y3.ensures.size)
 
 pub returns : goal.returns
@@ -62,12 +62,12 @@ returns c =
     let f-b2 = fits_size 32768 k.b2 (lit< tt) b.b2 in
     let f-oss : SFits w64 k.oss = omega (arith, ints) in
     let f-b6 = c.ranges.b6 in
-    let r-s : SFits w64 c.s-s.result = record { sfits = c.s-s.type-inv } in
-    let r-x3 : SFits w64 c.x3-x3.result = record { sfits = c.x3-x3.type-inv } in
-    let r-samples : SFits w64 c.samples.result = record { sfits = c.samples.type-inv } in
-    let r-b3 : SFits w64 c.b3-b3.result = record { sfits = c.b3-b3.type-inv } in
-    let r-y3 : SFits w64 c.y3-y3.result = record { sfits = c.y3-y3.type-inv } in
-    let r-b4 : SFits w64 c.b4-b4.result = record { sfits = c.b4-b4.type-inv } in
+    let r-s : SFits w64 c.s-s.result = record { sfits = c.s-s.type_inv } in
+    let r-x3 : SFits w64 c.x3-x3.result = record { sfits = c.x3-x3.type_inv } in
+    let r-samples : SFits w64 c.samples.result = record { sfits = c.samples.type_inv } in
+    let r-b3 : SFits w64 c.b3-b3.result = record { sfits = c.b3-b3.type_inv } in
+    let r-y3 : SFits w64 c.y3-y3.result = record { sfits = c.y3-y3.type_inv } in
+    let r-b4 : SFits w64 c.b4-b4.result = record { sfits = c.b4-b4.type_inv } in
     let s = simp to_z-of_z at c.s-s.ensures.value in
     let x3 = rw s at (simp to_z-of_z at c.x3-x3.ensures.value) in
     let samples = simp to_z-of_z at c.samples.ensures.value in

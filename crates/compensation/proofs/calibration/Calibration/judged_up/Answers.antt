@@ -19,7 +19,7 @@ worked-requires c =
     let b = bounded k c.args.self.now.admitted in
     let fp = fits_size 500 k.pcor (lit< tt) b.pcor in
     let f4 : SFits w64 c.args.balance.b4 = search rules in
-    let r7 : SFits w64 c.b7.result = record { sfits = c.b7.type-inv } in
+    let r7 : SFits w64 c.b7.result = record { sfits = c.b7.type_inv } in
     simp to_z-of_z (c.b7.ensures.range, omega (arith, ints), b.pcor)
 
 pub returns : goal.returns
@@ -33,8 +33,8 @@ returns c =
     let fu = c.ranges.up in
     let f3 : SFits w64 from.b3 = search rules in
     let f4 : SFits w64 from.b4 = search rules in
-    let rs : SFits w64 c.samples.result = record { sfits = c.samples.type-inv } in
-    let r7 : SFits w64 c.b7.result = record { sfits = c.b7.type-inv } in
+    let rs : SFits w64 c.samples.result = record { sfits = c.samples.type_inv } in
+    let r7 : SFits w64 c.b7.result = record { sfits = c.b7.type_inv } in
     let samples = simp to_z-of_z at c.samples.ensures.value in
     let b7 = rw samples at (simp to_z-of_z at c.b7.ensures.value) in
     let worked = rw b7 at (simp to_z-of_z at c.worked.ensures) in

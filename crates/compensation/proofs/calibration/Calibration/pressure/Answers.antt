@@ -5,8 +5,8 @@ use Rattle.compensation.proofs.Bounds.{bounded}
 use Rattle.compensation.proofs.Judged.{negative, too_large, read}
 use Rattle.compensation.proofs.calibration.Calibration.pressure.Goals as goal
 
-pub up-limit-limit-requires : goal.up-limit-limit-requires
-up-limit-limit-requires c =
+pub up_limit-limit-requires : goal.up_limit-limit-requires
+up_limit-limit-requires c =
     let k = c.args.self.now.values in
     let b = bounded k c.args.self.now.admitted in
     let oss = b.oss in
@@ -19,21 +19,21 @@ returns-then-up-lt0 c =
     let b = bounded k c.args.self.now.admitted in
     let oss = b.oss in
     let fo : SFits w64 k.oss = omega (arith, ints) in
-    let e = simp to_z-of_z at c.up-limit-limit.ensures.value in
-    sym (negative k c.args.b5 c.args.up c.up-limit-limit.result e (omega (arith, ints)))
+    let e = simp to_z-of_z at c.up_limit-limit.ensures.value in
+    sym (negative k c.args.b5 c.args.up c.up_limit-limit.result e (omega (arith, ints)))
 
-pub returns-then-up-limit : goal.returns-then-up-limit
-returns-then-up-limit c =
+pub returns-then-up_limit : goal.returns-then-up_limit
+returns-then-up_limit c =
     let k = c.args.self.now.values in
     let b = bounded k c.args.self.now.admitted in
     let oss = b.oss in
     let fo : SFits w64 k.oss = omega (arith, ints) in
-    let e = simp to_z-of_z at c.up-limit-limit.ensures.value in
-    sym (too_large k c.args.b5 c.args.up c.up-limit-limit.result e (omega (arith, ints)))
+    let e = simp to_z-of_z at c.up_limit-limit.ensures.value in
+    sym (too_large k c.args.b5 c.args.up c.up_limit-limit.result e (omega (arith, ints)))
 
-pub judged-up-requires : goal.judged-up-requires
-judged-up-requires c =
-    let range = c.up-limit-limit.ensures.range in
+pub judged_up-requires : goal.judged_up-requires
+judged_up-requires c =
+    let range = c.up_limit-limit.ensures.range in
     (omega (arith, ints), c.balance.ensures.b3)
 
 pub returns : goal.returns
@@ -42,13 +42,13 @@ returns c =
     let b = bounded k c.args.self.now.admitted in
     let oss = b.oss in
     let fo : SFits w64 k.oss = omega (arith, ints) in
-    let e = simp to_z-of_z at c.up-limit-limit.ensures.value in
-    let j = read k c.args.b5 c.args.up c.up-limit-limit.result e (omega (arith, ints)) (omega (arith, ints)) in
+    let e = simp to_z-of_z at c.up_limit-limit.ensures.value in
+    let j = read k c.args.b5 c.args.up c.up_limit-limit.result e (omega (arith, ints)) (omega (arith, ints)) in
     let fu = c.ranges.up in
     let fw : SFits w64 c.args.up = omega (arith, ints) in
     let fb = c.ranges.b5 in
     let fb2 : SFits w64 c.args.b5 = omega (arith, ints) in
     let f6 : SFits w64 (c.args.b5 -ℤ pos 4000) = omega (arith, ints) in
     let balance = simp to_z-of_z at c.balance.ensures.value in
-    let v = simp to_z-of_z at c.judged-up.ensures in
+    let v = simp to_z-of_z at c.judged_up.ensures in
     v ∙ (ap (λ from. pressure_from_balance k from c.args.up) balance ∙ sym j)

@@ -14,8 +14,8 @@ x1-x1-requires c =
     let f6 = fits_size 65535 k.ac6 (lit< tt) b.ac6 in
     simp to_z-of_z ((omega (arith, ints), omega (arith, ints)), b.ac5, b.ac6)
 
-pub overflow-add-x1 : goal.overflow-add-x1
-overflow-add-x1 c =
+pub overflow_add-x1 : goal.overflow_add-x1
+overflow_add-x1 c =
     let b = bounded c.args.self.now.values c.args.self.now.admitted in
     let d = b.md in
     omega (arith, ints)
@@ -36,7 +36,7 @@ pub x2-requires : goal.x2-requires
 x2-requires c =
     let k = c.args.self.now.values in
     let b = bounded k c.args.self.now.admitted in
-    let f1 : SFits w64 c.x1-x1.result = record { sfits = c.x1-x1.type-inv } in
+    let f1 : SFits w64 c.x1-x1.result = record { sfits = c.x1-x1.type_inv } in
     let fc = fits_size 32768 k.mc (lit< tt) b.mc in
     let fd = fits_size 32768 k.md (lit< tt) b.md in
     let d = b.md in
@@ -52,8 +52,8 @@ returns c =
     let fc = fits_size 32768 k.mc (lit< tt) b.mc in
     let fd = fits_size 32768 k.md (lit< tt) b.md in
     let d = b.md in
-    let r1 : SFits w64 c.x1-x1.result = record { sfits = c.x1-x1.type-inv } in
-    let r2 : SFits w64 c.x2.result = record { sfits = c.x2.type-inv } in
+    let r1 : SFits w64 c.x1-x1.result = record { sfits = c.x1-x1.type_inv } in
+    let r2 : SFits w64 c.x2.result = record { sfits = c.x2.type_inv } in
     let u : to_z w64 c.args.ut ≡ pos c.args.ut = omega (arith, ints) in
     let v = simp to_z-of_z at c.x1-x1.ensures.value in
     let e : c.x1-x1.result ≡ x1_of (pos c.args.ut) k.ac5 k.ac6 = rw u at v in

@@ -11,8 +11,8 @@ lay-requires c =
     let w = well_formed_with c.args.pair (pairs_in s.table) (sym c.if-not-admits.ensures) s.ok in
     record { few = s.few; room = well_formed_few (with_pair c.args.pair (pairs_in s.table)) w }
 
-pub invariant-of-self : goal.invariant-of-self
-invariant-of-self c =
+pub invariant_of-self : goal.invariant_of-self
+invariant_of-self c =
     let s = c.args.self.now in
     let w = well_formed_with c.args.pair (pairs_in s.table) (sym c.if-not-admits.ensures) s.ok in
     (c.lay.ensures.few, (ap well_formed c.lay.ensures.pairs ∙ w, tt))

@@ -12,7 +12,7 @@ returns c =
     let f : SFits w32 c.args.pair.value = search rules in
     record {
       pairs =
-          listed_inserted s.keys s.values s.len (omega arith) (omega arith) c.insert-at.new.xs c.insert-at-2.new.xs c.args.at c.args.pair.key c.args.pair.value
-          c.insert-at.ensures (c.insert-at-2.ensures ∙ ap (insert (take s.len s.values) c.args.at) (to_z-of_z w32 c.args.pair.value f));
+          listed_inserted s.keys s.values s.len (omega arith) (omega arith) c.insert_at.new.xs c.insert_at-2.new.xs c.args.at c.args.pair.key c.args.pair.value
+          c.insert_at.ensures (c.insert_at-2.ensures ∙ ap (insert (take s.len s.values) c.args.at) (to_z-of_z w32 c.args.pair.value f));
       len = refl;
     }

@@ -10,8 +10,8 @@ pub returns-in-Blank : goal.returns-in-Blank
 returns-in-Blank g c =
     let a = seen g.A.Flash c.args.self.now.first in
     let b = seen g.B.Flash c.args.self.now.second in
-    let read = c.in-ok-read.ensures.reads in
+    let read = c.in_ok-read.ensures.reads in
     let free : unit_at (mirrored a b) c.args.bank c.args.unit ≡ Blank = sym read.value ∙ c.in-Blank.is in
     let both = program_by_sides g.Fault-as-FlashFault-1 g.Fault-as-FlashFault-2 a b c.args.bank c.args.unit c.args.value (g.met.A.Flash.formed c.args.self.now.first) (g.met.B.Flash.formed c.args.self.now.second) read.accepted free
-    (seen g.A.Flash c.program-sides.new.self.first) (seen g.B.Flash c.program-sides.new.self.second) c.program-sides.result c.program-sides.ensures in
-    record { programs = both.0; sides = c.program-sides.ensures; cuts = both.1 }
+    (seen g.A.Flash c.program_sides.new.self.first) (seen g.B.Flash c.program_sides.new.self.second) c.program_sides.result c.program_sides.ensures in
+    record { programs = both.0; sides = c.program_sides.ensures; cuts = both.1 }

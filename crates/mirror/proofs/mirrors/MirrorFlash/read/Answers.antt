@@ -12,10 +12,10 @@ pub returns-in-Err : goal.returns-in-Err
 returns-in-Err g c =
     let a = seen g.A.Flash c.args.self.now.first in
     let b = seen g.B.Flash c.args.self.now.second in
-    let on : (mirrored a b).on ≡ true = and_from a.on b.on (sym c.is-on.ensures ∙ c.if-not-is-on.false) (sym c.is-on-else-not-is-on.ensures ∙ c.if-not-is-on-2.false) in
+    let on : (mirrored a b).on ≡ true = and_from a.on b.on (sym c.is_on.ensures ∙ c.if-not-is_on.false) (sym c.is_on-else-not-is_on.ensures ∙ c.if-not-is_on-2.false) in
     let there : c.args.bank < length (mirrored a b).units = omega (arith, c.banks.ensures.count, c.if-bank-banks.false) in
     let sides = both_from a b c.args.bank on there in
-    let wide : c.args.unit < a.width = omega (arith, c.units-per-bank.ensures.count, c.if-unit-units-per-bank.false) in
+    let wide : c.args.unit < a.width = omega (arith, c.units_per_bank.ensures.count, c.if-unit-units_per_bank.false) in
     let none = read_refusal_open a c.args.bank c.args.unit sides.on_first sides.in_first wide in
     let refused = c.in-Err.ensures.reads.refused in
     absurd (omega (arith, none, refused))
@@ -24,10 +24,10 @@ pub returns-in-Err-read : goal.returns-in-Err-read
 returns-in-Err-read g c =
     let a = seen g.A.Flash c.args.self.now.first in
     let b = seen g.B.Flash c.args.self.now.second in
-    let on : (mirrored a b).on ≡ true = and_from a.on b.on (sym c.is-on.ensures ∙ c.if-not-is-on.false) (sym c.is-on-else-not-is-on.ensures ∙ c.if-not-is-on-2.false) in
+    let on : (mirrored a b).on ≡ true = and_from a.on b.on (sym c.is_on.ensures ∙ c.if-not-is_on.false) (sym c.is_on-else-not-is_on.ensures ∙ c.if-not-is_on-2.false) in
     let there : c.args.bank < length (mirrored a b).units = omega (arith, c.banks.ensures.count, c.if-bank-banks.false) in
     let sides = both_from a b c.args.bank on there in
-    let wide : c.args.unit < b.width = omega (arith, c.units-per-bank.ensures.count, c.if-unit-units-per-bank.false) in
+    let wide : c.args.unit < b.width = omega (arith, c.units_per_bank.ensures.count, c.if-unit-units_per_bank.false) in
     let none = read_refusal_open b c.args.bank c.args.unit sides.on_second sides.in_second wide in
     let refused = c.in-Err-read.ensures.reads.refused in
     absurd (omega (arith, none, refused))
@@ -36,10 +36,10 @@ pub returns : goal.returns
 returns g c =
     let a = seen g.A.Flash c.args.self.now.first in
     let b = seen g.B.Flash c.args.self.now.second in
-    let on : (mirrored a b).on ≡ true = and_from a.on b.on (sym c.is-on.ensures ∙ c.if-not-is-on.false) (sym c.is-on-else-not-is-on.ensures ∙ c.if-not-is-on-2.false) in
+    let on : (mirrored a b).on ≡ true = and_from a.on b.on (sym c.is_on.ensures ∙ c.if-not-is_on.false) (sym c.is_on-else-not-is_on.ensures ∙ c.if-not-is_on-2.false) in
     let there : c.args.bank < length (mirrored a b).units = omega (arith, c.banks.ensures.count, c.if-bank-banks.false) in
     let sides = both_from a b c.args.bank on there in
-    let wide : c.args.unit < (mirrored a b).width = omega (arith, c.units-per-bank.ensures.count, c.if-unit-units-per-bank.false) in
+    let wide : c.args.unit < (mirrored a b).width = omega (arith, c.units_per_bank.ensures.count, c.if-unit-units_per_bank.false) in
     let wide-first : c.args.unit < a.width = omega (arith, wide) in
     let wide-second : c.args.unit < b.width = omega (arith, wide) in
     let held = mirrored_unit_at a b c.args.bank c.args.unit (g.met.A.Flash.formed c.args.self.now.first) (g.met.B.Flash.formed c.args.self.now.second) sides.in_first sides.in_second wide-first wide-second in

@@ -7,16 +7,16 @@ use Rattle.simulator.specs.Fitting.{over_fits, blank_fits}
 use Rattle.simulator.specs.Simulating.{items, row_of, refilled_over}
 use Rattle.simulator.proofs.simulators.Simulator.blank_bank.Goals as goal
 
-pub make-blank-requires : goal.make-blank-requires
-make-blank-requires c =
+pub make_blank-requires : goal.make_blank-requires
+make_blank-requires c =
     let s = c.args.self.now in
-    omega (arith, row_of s c.args.bank c.requires, c.as-mut-slice.ensures.len, s.table.ok.0)
+    omega (arith, row_of s c.args.bank c.requires, c.as_mut_slice.ensures.len, s.table.ok.0)
 
-pub invariant-of-self : goal.invariant-of-self
-invariant-of-self c =
+pub invariant_of-self : goal.invariant_of-self
+invariant_of-self c =
     let s = c.args.self.now in
     let left = replicate s.width Blank in
-    let table = refilled_over s c.args.bank c.as-mut-slice.result.now c.make-blank.new.cells left c.requires c.as-mut-slice.ensures.value c.make-blank.ensures (length-replicate s.width Blank) in
+    let table = refilled_over s c.args.bank c.as_mut_slice.result.now c.make_blank.new.cells left c.requires c.as_mut_slice.ensures.value c.make_blank.ensures (length-replicate s.width Blank) in
     let fit = over_fits (items s) (c.args.bank * s.width) left s.values (blank_fits s.width) in
     (s.shape, (s.filled, (s.fits, (ap values_fit table ∙ fit, (s.places, tt)))))
 
@@ -24,4 +24,4 @@ pub returns : goal.returns
 returns c =
     let s = c.args.self.now in
     let left = replicate s.width Blank in
-    ap (with_table (state_of s)) (refilled_over s c.args.bank c.as-mut-slice.result.now c.make-blank.new.cells left c.requires c.as-mut-slice.ensures.value c.make-blank.ensures (length-replicate s.width Blank))
+    ap (with_table (state_of s)) (refilled_over s c.args.bank c.as_mut_slice.result.now c.make_blank.new.cells left c.requires c.as_mut_slice.ensures.value c.make_blank.ensures (length-replicate s.width Blank))

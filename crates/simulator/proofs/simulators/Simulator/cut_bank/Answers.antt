@@ -6,21 +6,21 @@ use Rattle.simulator.specs.Fitting.{over_fits, part_fits, bank_residue_fits}
 use Rattle.simulator.specs.Simulating.{items, full_of, row_of, row_residue_length, refilled_over}
 use Rattle.simulator.proofs.simulators.Simulator.cut_bank.Goals as goal
 
-pub cut-erase-requires : goal.cut-erase-requires
-cut-erase-requires c =
+pub cut_erase-requires : goal.cut_erase-requires
+cut_erase-requires c =
     let s = c.args.self.now in
-    omega (arith, row_of s c.args.bank c.requires, c.as-mut-slice.ensures.len, s.table.ok.0)
+    omega (arith, row_of s c.args.bank c.requires, c.as_mut_slice.ensures.len, s.table.ok.0)
 
-pub invariant-of-self : goal.invariant-of-self
-invariant-of-self c =
+pub invariant_of-self : goal.invariant_of-self
+invariant_of-self c =
     let s = c.args.self.now in
     let from = c.args.bank * s.width in
     let row = take s.width (drop from (items s)) in
     let left = bank_residue s.pattern row in
     let size = row_residue_length s.banks s.width (items s) false s.charge (full_of s) c.args.bank c.requires s.pattern in
-    let slice = c.as-mut-slice.ensures.value in
-    let wrote = c.cut-erase.ensures ∙ ap (λ z. over c.as-mut-slice.result.now from (bank_residue s.pattern (take s.width (drop from z)))) slice in
-    let table = refilled_over s c.args.bank c.as-mut-slice.result.now c.cut-erase.new.cells left c.requires slice wrote size in
+    let slice = c.as_mut_slice.ensures.value in
+    let wrote = c.cut_erase.ensures ∙ ap (λ z. over c.as_mut_slice.result.now from (bank_residue s.pattern (take s.width (drop from z)))) slice in
+    let table = refilled_over s c.args.bank c.as_mut_slice.result.now c.cut_erase.new.cells left c.requires slice wrote size in
     let fit = over_fits (items s) from left s.values (bank_residue_fits s.pattern row (part_fits (items s) from s.width s.values)) in
     (s.shape, (s.filled, (s.fits, (ap values_fit table ∙ fit, (s.places, tt)))))
 
@@ -30,6 +30,6 @@ returns c =
     let from = c.args.bank * s.width in
     let left = bank_residue s.pattern (take s.width (drop from (items s))) in
     let size = row_residue_length s.banks s.width (items s) false s.charge (full_of s) c.args.bank c.requires s.pattern in
-    let slice = c.as-mut-slice.ensures.value in
-    let wrote = c.cut-erase.ensures ∙ ap (λ z. over c.as-mut-slice.result.now from (bank_residue s.pattern (take s.width (drop from z)))) slice in
-    ap (with_table (state_of s)) (refilled_over s c.args.bank c.as-mut-slice.result.now c.cut-erase.new.cells left c.requires slice wrote size)
+    let slice = c.as_mut_slice.ensures.value in
+    let wrote = c.cut_erase.ensures ∙ ap (λ z. over c.as_mut_slice.result.now from (bank_residue s.pattern (take s.width (drop from z)))) slice in
+    ap (with_table (state_of s)) (refilled_over s c.args.bank c.as_mut_slice.result.now c.cut_erase.new.cells left c.requires slice wrote size)

@@ -11,18 +11,18 @@ use Rattle.simulator.proofs.Making.{makes}
 use Rattle.simulator.specs.Rows.{over_whole}
 use Rattle.simulator.proofs.simulators.Simulator.new.Goals as goal
 
-pub invariant-of-result : goal.invariant-of-result
-invariant-of-result c =
+pub invariant_of-result : goal.invariant_of-result
+invariant_of-result c =
     let b = c.args.banks in
     let w = c.args.width in
     let t = c.args.table in
-    let code : make_refusal b w (vec_len t) ≡ 0 = ap (make_refusal b w) (sym c.len.ensures) ∙ c.in-default.ensures in
+    let code : make_refusal b w (vec_len t) ≡ 0 = ap (make_refusal b w) (sym c.len.ensures) ∙ c.in_default.ensures in
     let m = makes b w (vec_len t) code in
     let blank = replicate (b * w) Blank in
-    let full : length blank ≡ length c.as-mut-slice.result.now = length-replicate (b * w) Blank ∙ omega (arith, m.full, c.as-mut-slice.ensures.len) in
-    let left : c.make-blank.new.cells ≡ blank = c.make-blank.ensures ∙ over_whole c.as-mut-slice.result.now blank full in
-    let long : length c.make-blank.new.cells ≡ t.len = ap length left ∙ length-replicate (b * w) Blank ∙ sym m.full in
-    let table = with_items_is t c.make-blank.new.cells long ∙ left in
+    let full : length blank ≡ length c.as_mut_slice.result.now = length-replicate (b * w) Blank ∙ omega (arith, m.full, c.as_mut_slice.ensures.len) in
+    let left : c.make_blank.new.cells ≡ blank = c.make_blank.ensures ∙ over_whole c.as_mut_slice.result.now blank full in
+    let long : length c.make_blank.new.cells ≡ t.len = ap length left ∙ length-replicate (b * w) Blank ∙ sym m.full in
+    let table = with_items_is t c.make_blank.new.cells long ∙ left in
     (m.shape, (m.full, (lit< tt, (ap values_fit table ∙ blank_fits (b * w), ((refl, lit≤ tt, lit≤ tt), tt)))))
 
 pub returns : goal.returns
@@ -30,11 +30,11 @@ returns c =
     let b = c.args.banks in
     let w = c.args.width in
     let t = c.args.table in
-    let code : make_refusal b w (vec_len t) ≡ 0 = ap (make_refusal b w) (sym c.len.ensures) ∙ c.in-default.ensures in
+    let code : make_refusal b w (vec_len t) ≡ 0 = ap (make_refusal b w) (sym c.len.ensures) ∙ c.in_default.ensures in
     let m = makes b w (vec_len t) code in
     let blank = replicate (b * w) Blank in
-    let full : length blank ≡ length c.as-mut-slice.result.now = length-replicate (b * w) Blank ∙ omega (arith, m.full, c.as-mut-slice.ensures.len) in
-    let left : c.make-blank.new.cells ≡ blank = c.make-blank.ensures ∙ over_whole c.as-mut-slice.result.now blank full in
-    let long : length c.make-blank.new.cells ≡ t.len = ap length left ∙ length-replicate (b * w) Blank ∙ sym m.full in
-    let table = with_items_is t c.make-blank.new.cells long ∙ left in
+    let full : length blank ≡ length c.as_mut_slice.result.now = length-replicate (b * w) Blank ∙ omega (arith, m.full, c.as_mut_slice.ensures.len) in
+    let left : c.make_blank.new.cells ≡ blank = c.make_blank.ensures ∙ over_whole c.as_mut_slice.result.now blank full in
+    let long : length c.make_blank.new.cells ≡ t.len = ap length left ∙ length-replicate (b * w) Blank ∙ sym m.full in
+    let table = with_items_is t c.make_blank.new.cells long ∙ left in
     record { refusal = code; made = ap (with_table (new_simulator b w)) table }

@@ -9,21 +9,21 @@ use Rattle.store.proofs.Law.{follows_ledger}
 use Rattle.store.proofs.Tying.{keeps_tied}
 use Rattle.store.proofs.stores.Store.begin.Goals as goal
 
-pub returns-in-err-number : goal.returns-in-err-number
-returns-in-err-number g c =
+pub returns-in_err-number : goal.returns-in_err-number
+returns-in_err-number g c =
     let m = moment g.F.Flash c.args.self.now in
     let m' = moment g.F.Flash c.judge.new.self in
-    let why = c.in-err-number.field-0.0 in
+    let why = c.in_err-number.field-0.0 in
     let is : c.from-residual.result ≡ Err why = search rules in
     let same : ticket_number c.from-residual.result ≡ Err why = ap ticket_number is in
     let e : Entry = Begin (ticket_number c.from-residual.result) in
-    let d : Does m e m' = subst (λ (r : Result ℕ Refusal). Does m (Begin r) m') (sym same) c.in-err-number.ensures in
+    let d : Does m e m' = subst (λ (r : Result ℕ Refusal). Does m (Begin r) m') (sym same) c.in_err-number.ensures in
     record { does = d; tied = keeps_tied m e m' d; ledger = follows_ledger m e m' d }
 
 pub returns : goal.returns
 returns g c =
     let m = moment g.F.Flash c.args.self.now in
     let m' = moment g.F.Flash c.judge.new.self in
-    let e : Entry = Begin (Ok c.in-ok-number.number) in
-    let d : Does m e m' = c.in-ok-number.ensures in
+    let e : Entry = Begin (Ok c.in_ok-number.number) in
+    let d : Does m e m' = c.in_ok-number.ensures in
     record { does = d; tied = keeps_tied m e m' d; ledger = follows_ledger m e m' d }

@@ -13,19 +13,19 @@ use Rattle.store.proofs.Tying.{keeps_tied}
 use Rattle.store.proofs.Looking.{looks_cold, looks_warm}
 use Rattle.store.proofs.stores.Store.get.Goals as goal
 
-pub returns-in-err-judge : goal.returns-in-err-judge
-returns-in-err-judge g c =
+pub returns-in_err-judge : goal.returns-in_err-judge
+returns-in_err-judge g c =
     let m = moment g.F.Flash c.args.self.now in
     let m' = moment g.F.Flash c.judge.new.self in
     let f : List Pair → ℕ → Result (Option ℤ) Refusal = λ ps number. get_answer ps c.args.key in
-    let why = c.in-err-judge.field-0.0 in
+    let why = c.in_err-judge.field-0.0 in
     let is : c.from-residual.result ≡ Err why = search rules in
     let e : Entry = Get c.args.key c.from-residual.result in
-    let d : Does m e m' = subst (λ (r : Result (Option ℤ) Refusal). Does m (Get c.args.key r) m') (sym is) (looks_cold m m' f why c.in-err-judge.ensures) in
+    let d : Does m e m' = subst (λ (r : Result (Option ℤ) Refusal). Does m (Get c.args.key r) m') (sym is) (looks_cold m m' f why c.in_err-judge.ensures) in
     record { does = d; tied = keeps_tied m e m' d; ledger = follows_ledger m e m' d }
 
-pub returns-then-is-key : goal.returns-then-is-key
-returns-then-is-key g c =
+pub returns-then-is_key : goal.returns-then-is_key
+returns-then-is_key g c =
     let m = moment g.F.Flash c.args.self.now in
     let m' = moment g.F.Flash c.judge.new.self in
     let st = c.judge.new.self in
@@ -33,11 +33,11 @@ returns-then-is-key g c =
     let r : Result (Option ℤ) Refusal = Ok c.value.result in
     let q : r ≡ get_answer (pairs_of st.standing.pairs) c.args.key = search rules in
     let e : Entry = Get c.args.key r in
-    let d : Does m e m' = looks_warm m m' st.phase st.standing st.change refl f _ c.in-ok-judge.ensures r q in
+    let d : Does m e m' = looks_warm m m' st.phase st.standing st.change refl f _ c.in_ok-judge.ensures r q in
     record { does = d; tied = keeps_tied m e m' d; ledger = follows_ledger m e m' d }
 
-pub returns-else-is-key : goal.returns-else-is-key
-returns-else-is-key g c =
+pub returns-else-is_key : goal.returns-else-is_key
+returns-else-is_key g c =
     let m = moment g.F.Flash c.args.self.now in
     let m' = moment g.F.Flash c.judge.new.self in
     let st = c.judge.new.self in
@@ -45,5 +45,5 @@ returns-else-is-key g c =
     let r : Result (Option ℤ) Refusal = Err UnknownKey in
     let q : r ≡ get_answer (pairs_of st.standing.pairs) c.args.key = search rules in
     let e : Entry = Get c.args.key r in
-    let d : Does m e m' = looks_warm m m' st.phase st.standing st.change refl f _ c.in-ok-judge.ensures r q in
+    let d : Does m e m' = looks_warm m m' st.phase st.standing st.change refl f _ c.in_ok-judge.ensures r q in
     record { does = d; tied = keeps_tied m e m' d; ledger = follows_ledger m e m' d }

@@ -5,4 +5,4 @@ use Rattle.image.specs.ImageFlashes.{banks_count}
 use Rattle.image.proofs.images.calls.ImageFlash.banks.Goals as goal
 
 pub returns : goal.returns
-returns c = record { count = c.banks-of.ensures ∙ ap image_banks c.as-slice.ensures.value ∙ sym (banks_count (image_bytes c.args.self.now)) }
+returns c = record { count = c.banks_of.ensures ∙ ap image_banks c.as_slice.ensures.value ∙ sym (banks_count (image_bytes c.args.self.now)) }

@@ -25,7 +25,7 @@ returns-then-self-eq0 c =
     let there = in_bank s.banks s.width (items s) s.on s.charge (full_of s) b c.if-bank-self.false in
     let left = bank_residue s.pattern (take s.width (drop (b * s.width) (items s))) in
     let size = row_residue_length s.banks s.width (items s) false s.charge (full_of s) b c.if-bank-self.false s.pattern in
-    let after : state_of c.turn-off.new.self ≡ turned_off (with_bank_cut (state_of s) b) = c.turn-off.ensures ∙ ap turned_off c.cut-bank.ensures in
+    let after : state_of c.turn_off.new.self ≡ turned_off (with_bank_cut (state_of s) b) = c.turn_off.ensures ∙ ap turned_off c.cut_bank.ensures in
     let cause = c.fault-then-self-eq0.ensures in
     let cut = erase_cut (simulated s) b c.if-not-self.false there _ c.fault-then-self-eq0.result _ c.if-self-eq0.true (ap cause_number cause) (ap cause_place cause)
     left (table_residue s.banks s.width (items s) s.on s.charge (full_of s) b c.if-bank-self.false s.pattern)
@@ -38,7 +38,7 @@ returns c =
     let b = c.args.bank in
     let there = in_bank s.banks s.width (items s) s.on s.charge (full_of s) b c.if-bank-self.false in
     let left = replicate s.width Blank in
-    let after : state_of c.pay.new.self ≡ paid (with_bank_blank (state_of s) b) = c.pay.ensures ∙ ap paid c.blank-bank.ensures in
+    let after : state_of c.pay.new.self ≡ paid (with_bank_blank (state_of s) b) = c.pay.ensures ∙ ap paid c.blank_bank.ensures in
     let paid_for : 0 < s.charge = omega (arith, c.if-self-eq0.false) in
     let done = erase_done (simulated s) b c.if-not-self.false there _ paid_for
     (ap flash_of after ∙ table_bank s.banks s.width (items s) s.on (s.charge - 1) (full_of s) b c.if-bank-self.false left (length-replicate s.width Blank)) in

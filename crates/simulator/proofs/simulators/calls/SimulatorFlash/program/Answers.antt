@@ -11,17 +11,17 @@ use Rattle.simulator.specs.Fitting.{set_fits, program_residue_fits}
 use Rattle.simulator.specs.Simulating.{table_state, table_unit, items, simulated, full_of, there_of, place_of, program_state_cut, program_state_done}
 use Rattle.simulator.proofs.simulators.calls.SimulatorFlash.program.Goals as goal
 
-pub overflow-mul-at : goal.overflow-mul-at
-overflow-mul-at c = let s = c.args.self.now in omega (arith, place_of s c.args.bank c.args.unit c.in-ok-read.ensures.reads.accepted, s.filled, s.shape)
+pub overflow_mul-at : goal.overflow_mul-at
+overflow_mul-at c = let s = c.args.self.now in omega (arith, place_of s c.args.bank c.args.unit c.in_ok-read.ensures.reads.accepted, s.filled, s.shape)
 
-pub overflow-add-at : goal.overflow-add-at
-overflow-add-at c = let s = c.args.self.now in omega (arith, place_of s c.args.bank c.args.unit c.in-ok-read.ensures.reads.accepted, s.filled, s.shape)
+pub overflow_add-at : goal.overflow_add-at
+overflow_add-at c = let s = c.args.self.now in omega (arith, place_of s c.args.bank c.args.unit c.in_ok-read.ensures.reads.accepted, s.filled, s.shape)
 
-pub index-mut-requires : goal.index-mut-requires
-index-mut-requires c = place_of c.args.self.now c.args.bank c.args.unit c.in-ok-read.ensures.reads.accepted
+pub index_mut-requires : goal.index_mut-requires
+index_mut-requires c = place_of c.args.self.now c.args.bank c.args.unit c.in_ok-read.ensures.reads.accepted
 
-pub invariant-of-self : goal.invariant-of-self
-invariant-of-self c =
+pub invariant_of-self : goal.invariant_of-self
+invariant_of-self c =
     let s = c.args.self.now in
     let value : c.args.value < 2 ^ 64 = omega arith in
     let left : ValueFits c.program_residue.result = subst ValueFits (sym c.program_residue.ensures) (program_residue_fits s.residue c.args.value value) in
@@ -30,7 +30,7 @@ invariant-of-self c =
 pub returns-then-self-eq0 : goal.returns-then-self-eq0
 returns-then-self-eq0 c =
     let s = c.args.self.now in
-    let read = c.in-ok-read.ensures.reads in
+    let read = c.in_ok-read.ensures.reads in
     let free : unit_at (simulated s) c.args.bank c.args.unit ≡ Blank = sym read.value ∙ c.in-Blank.is in
     let p = there_of s c.args.bank c.args.unit read.accepted in
     let x = program_residue s.residue c.args.value in
@@ -39,17 +39,17 @@ returns-then-self-eq0 c =
     let left = c.program_residue.ensures in
     let cut = program_cut (simulated s) c.args.bank c.args.unit read.accepted free _ c.fault-then-self-eq0.result _ c.args.value c.if-self-eq0.true (ap cause_number cause) (ap cause_place cause)
     x (residue_allowed s.residue c.args.value)
-    (ap flash_of c.turn-off.ensures ∙ ap (λ y. table_state s.banks s.width (set (items s) at y) false s.charge) left ∙ table_unit s.banks s.width (items s) false s.charge (full_of s) c.args.bank p.0 c.args.unit x p.1) in
+    (ap flash_of c.turn_off.ensures ∙ ap (λ y. table_state s.banks s.width (set (items s) at y) false s.charge) left ∙ table_unit s.banks s.width (items s) false s.charge (full_of s) c.args.bank p.0 c.args.unit x p.1) in
     record {
       programs = cut;
-      state = c.turn-off.ensures ∙ ap (λ y. turned_off (with_table (state_of s) (set (items s) at y))) left ∙ program_state_cut (state_of s) c.args.bank c.args.unit c.args.value (sym cut.why.number ∙ ap cause_number cause);
+      state = c.turn_off.ensures ∙ ap (λ y. turned_off (with_table (state_of s) (set (items s) at y))) left ∙ program_state_cut (state_of s) c.args.bank c.args.unit c.args.value (sym cut.why.number ∙ ap cause_number cause);
     }
 
-pub index-mut-requires-2 : goal.index-mut-requires-2
-index-mut-requires-2 c = place_of c.args.self.now c.args.bank c.args.unit c.in-ok-read.ensures.reads.accepted
+pub index_mut-requires-2 : goal.index_mut-requires-2
+index_mut-requires-2 c = place_of c.args.self.now c.args.bank c.args.unit c.in_ok-read.ensures.reads.accepted
 
-pub invariant-of-self-2 : goal.invariant-of-self-2
-invariant-of-self-2 c =
+pub invariant_of-self-2 : goal.invariant_of-self-2
+invariant_of-self-2 c =
     let s = c.args.self.now in
     let value : c.args.value < 2 ^ 64 = omega arith in
     (s.shape, (s.filled, (omega arith, (set_fits (items s) (c.args.bank * s.width + c.args.unit) (Programmed c.args.value) value s.values, (s.places, tt)))))
@@ -57,7 +57,7 @@ invariant-of-self-2 c =
 pub returns : goal.returns
 returns c =
     let s = c.args.self.now in
-    let read = c.in-ok-read.ensures.reads in
+    let read = c.in_ok-read.ensures.reads in
     let free : unit_at (simulated s) c.args.bank c.args.unit ≡ Blank = sym read.value ∙ c.in-Blank.is in
     let p = there_of s c.args.bank c.args.unit read.accepted in
     let paid : 0 < s.charge = omega (arith, c.if-self-eq0.false) in
