@@ -26,8 +26,8 @@ pub(crate) fn floor_over(n: i64, d: i64) -> i64
 // The same for a divisor of either sign: n / d is (-n) / (-d).
 pub(crate) fn floor_div(n: i64, d: i64) -> i64
     requires d_nonzero { d ≢ pos 0 }
-    requires negsuc_bound { negsuc (2 ^ 63 - 1) <ℤ n }
-    requires negsuc_bound_2 { negsuc (2 ^ 63 - 1) <ℤ d }
+    requires n_not_least { negsuc (2 ^ 63 - 1) <ℤ n }
+    requires d_not_least { negsuc (2 ^ 63 - 1) <ℤ d }
     ensures value { result ≡ floor_div n d }
     ensures bound { (m : ℕ) → Size m n → Size m result }
     ensures sign { pos 0 ≤ℤ n → pos 0 <ℤ d → pos 0 ≤ℤ result }
@@ -41,8 +41,8 @@ pub(crate) fn floor_div(n: i64, d: i64) -> i64
 
 // The product of two numbers of at most 30 bits.
 pub(crate) fn times(a: i64, b: i64) -> i64
-    requires size_2 { Size (2 ^ 30) a }
-    requires size_3 { Size (2 ^ 30) b }
+    requires a_small { Size (2 ^ 30) a }
+    requires b_small { Size (2 ^ 30) b }
     ensures value { result ≡ a *ℤ b }
     ensures size { Size (2 ^ 60) result }
     ensures bound { (m k : ℕ) → Size m a → Size k b → Size (m * k) result }
@@ -53,9 +53,9 @@ pub(crate) fn times(a: i64, b: i64) -> i64
 
 // a·b ÷ d for a divisor above 0.
 pub(crate) fn scaled(a: i64, b: i64, d: i64) -> i64
-    requires size_2 { Size (2 ^ 30) a }
-    requires size_3 { Size (2 ^ 30) b }
-    requires pos_bound { pos 0 <ℤ d }
+    requires a_small { Size (2 ^ 30) a }
+    requires b_small { Size (2 ^ 30) b }
+    requires d_positive { pos 0 <ℤ d }
     ensures value { result ≡ floor_div (a *ℤ b) d }
     ensures size { Size (2 ^ 60) result }
     ensures bound { (m k : ℕ) → Size m a → Size k b → Size (m * k / unsigned_abs d + 1) result }

@@ -42,10 +42,10 @@ fn s(b6: i64) -> i64
 }
 
 fn x3(b2: i64, ac2: i64, b6: i64, s: i64) -> i64
-    requires size_2 { Size 32768 b2 }
-    requires size_3 { Size 32768 ac2 }
-    requires size_4 { Size 36768 b6 }
-    requires size_5 { Size 340000 s }
+    requires b2_small { Size 32768 b2 }
+    requires ac2_small { Size 32768 ac2 }
+    requires b6_small { Size 36768 b6 }
+    requires s_small { Size 340000 s }
     ensures value { result ≡ x3_of b2 ac2 b6 s }
     ensures size { Size 6100000 result }
 {
@@ -53,9 +53,9 @@ fn x3(b2: i64, ac2: i64, b6: i64, s: i64) -> i64
 }
 
 fn b3(ac1: i64, x3: i64, samples: i64) -> i64
-    requires size_2 { Size 32768 ac1 }
-    requires size_3 { Size 6100000 x3 }
-    requires between { Between (pos 1) (pos 8) samples }
+    requires ac1_small { Size 32768 ac1 }
+    requires x3_small { Size 6100000 x3 }
+    requires samples_within { Between (pos 1) (pos 8) samples }
     ensures value { result ≡ b3_of ac1 x3 samples }
     ensures size { Size 13000000 result }
 {
@@ -63,10 +63,10 @@ fn b3(ac1: i64, x3: i64, samples: i64) -> i64
 }
 
 fn y3(ac3: i64, b1: i64, b6: i64, s: i64) -> i64
-    requires size_2 { Size 32768 ac3 }
-    requires size_3 { Size 32768 b1 }
-    requires size_4 { Size 36768 b6 }
-    requires size_5 { Size 340000 s }
+    requires ac3_small { Size 32768 ac3 }
+    requires b1_small { Size 32768 b1 }
+    requires b6_small { Size 36768 b6 }
+    requires s_small { Size 340000 s }
     ensures value { result ≡ y3_of ac3 b1 b6 s }
     ensures size { Size 90000 result }
 {
@@ -74,8 +74,8 @@ fn y3(ac3: i64, b1: i64, b6: i64, s: i64) -> i64
 }
 
 fn b4(ac4: i64, y3: i64) -> i64
-    requires size_2 { Size 65535 ac4 }
-    requires size_3 { Size 90000 y3 }
+    requires ac4_small { Size 65535 ac4 }
+    requires y3_small { Size 90000 y3 }
     ensures value { result ≡ b4_of ac4 y3 }
     ensures size { Size 300000 result }
 {
@@ -83,10 +83,10 @@ fn b4(ac4: i64, y3: i64) -> i64
 }
 
 fn b7(up: i64, b3: i64, samples: i64) -> i64
-    requires between { Between (pos 0) (pos 524288) up }
-    requires size { Size 13000000 b3 }
+    requires up_within { Between (pos 0) (pos 524288) up }
+    requires b3_small { Size 13000000 b3 }
     requires b3_le_up { b3 ≤ℤ up }
-    requires between_2 { Between (pos 1) (pos 8) samples }
+    requires samples_within { Between (pos 1) (pos 8) samples }
     ensures value { result ≡ b7_of up b3 samples }
     ensures range { Between (pos 0) (pos 1000000000000) result }
 {
@@ -94,8 +94,8 @@ fn b7(up: i64, b3: i64, samples: i64) -> i64
 }
 
 fn p(b7: i64, b4: i64) -> i64
-    requires between { Between (pos 0) (pos 1000000000000) b7 }
-    requires pos_bound { pos 0 <ℤ b4 }
+    requires b7_within { Between (pos 0) (pos 1000000000000) b7 }
+    requires b4_positive { pos 0 <ℤ b4 }
     ensures value { result ≡ p_of b7 b4 }
     ensures range { pos 0 ≤ℤ result }
 {
@@ -107,8 +107,8 @@ fn p(b7: i64, b4: i64) -> i64
 }
 
 fn last_correction(p: i64, q: i64) -> i64
-    requires between { Between (pos 0) (pos 1000000) p }
-    requires between_2 { Between (pos 0) (pos 4000) q }
+    requires p_within { Between (pos 0) (pos 1000000) p }
+    requires q_within { Between (pos 0) (pos 4000) q }
     ensures value { result ≡ last_correction_of p q }
     ensures size { Size 100000 result }
 {
@@ -120,8 +120,8 @@ fn last_correction(p: i64, q: i64) -> i64
 
 // P in Pa.
 fn pa(p: i64, pcor: i64) -> i64
-    requires between { Between (pos 0) (pos 1000000) p }
-    requires size_2 { Size 500 pcor }
+    requires p_within { Between (pos 0) (pos 1000000) p }
+    requires pcor_small { Size 500 pcor }
     ensures value { result ≡ pa_of p pcor }
     ensures size { Size 1200000 result }
 {
@@ -130,8 +130,8 @@ fn pa(p: i64, pcor: i64) -> i64
 
 // p within its limit.
 fn judged_p(b7: i64, b4: i64) -> Result<i64, ReadingRefusal>
-    requires between { Between (pos 0) (pos 1000000000000) b7 }
-    requires pos_bound { pos 0 <ℤ b4 }
+    requires b7_within { Between (pos 0) (pos 1000000000000) b7 }
+    requires b4_positive { pos 0 <ℤ b4 }
     ensures value { result ≡ p_from_b7 b7 b4 }
     ensures made { IfOk result (λ p. Between (pos 0) (pos 1000000) p) }
 {
@@ -143,9 +143,9 @@ fn judged_p(b7: i64, b4: i64) -> Result<i64, ReadingRefusal>
 }
 
 fn worked(balance: Balance, b7: i64, pcor: i64) -> Result<WorkedPressure, ReadingRefusal>
-    requires between { Between (pos 0) (pos 1000000000000) b7 }
-    requires pos_bound { pos 0 <ℤ balance.b4 }
-    requires size { Size 500 pcor }
+    requires b7_within { Between (pos 0) (pos 1000000000000) b7 }
+    requires b4_positive { pos 0 <ℤ balance.b4 }
+    requires pcor_small { Size 500 pcor }
     ensures { result ≡ pressure_from_b7 balance b7 pcor }
 {
     let p = judged_p(b7, balance.b4)?;
@@ -181,8 +181,8 @@ impl Calibration {
 
     // What is left to judge once UP is known to have 16 + OSS bits.
     fn judged_up(&self, balance: Balance, up: i64) -> Result<WorkedPressure, ReadingRefusal>
-        requires between { Between (pos 0) (pos 524288) up }
-        requires size { Size 13000000 balance.b3 }
+        requires up_within { Between (pos 0) (pos 524288) up }
+        requires b3_small { Size 13000000 balance.b3 }
         ensures { result ≡ pressure_from_balance self.now.values balance up }
     {
         if up < balance.b3 || balance.b4 <= 0 {

@@ -8,9 +8,9 @@ use crate::division::{floor_div, floor_over, scaled};
 use crate::readings::{ReadingRefusal, WorkedTemperature, checked_ut};
 
 fn x1(ut: i64, ac5: i64, ac6: i64) -> i64
-    requires between { Between (pos 0) (pos 65535) ut }
-    requires size_2 { Size 65535 ac5 }
-    requires size_3 { Size 65535 ac6 }
+    requires ut_within { Between (pos 0) (pos 65535) ut }
+    requires ac5_small { Size 65535 ac5 }
+    requires ac6_small { Size 65535 ac6 }
     ensures value { result ≡ x1_of ut ac5 ac6 }
     ensures size { Size 262200 result }
 {
@@ -18,10 +18,10 @@ fn x1(ut: i64, ac5: i64, ac6: i64) -> i64
 }
 
 fn x2(x1: i64, mc: i64, md: i64) -> i64
-    requires size_2 { Size 262200 x1 }
-    requires size_3 { Size 32768 mc }
-    requires size_4 { Size 32768 md }
-    requires md_nonzero { x1 +ℤ md ≢ pos 0 }
+    requires x1_small { Size 262200 x1 }
+    requires mc_small { Size 32768 mc }
+    requires md_small { Size 32768 md }
+    requires divisor_nonzero { x1 +ℤ md ≢ pos 0 }
     ensures value { result ≡ x2_of x1 mc md }
     ensures size { Size 67108864 result }
 {
@@ -52,8 +52,8 @@ fn judged_t(b5: i64) -> Result<i16, ReadingRefusal>
 }
 
 fn worked(x1: i64, x2: i64) -> Result<WorkedTemperature, ReadingRefusal>
-    requires size { Size 262200 x1 }
-    requires size_2 { Size 67108864 x2 }
+    requires x1_small { Size 262200 x1 }
+    requires x2_small { Size 67108864 x2 }
     ensures { result ≡ temperature_from_x2 x1 x2 }
 {
     let b5 = x1 + x2;

@@ -6,7 +6,7 @@ use Rattle.compensation.proofs.datasheet.example_calibration.Goals as goal
 
 pub invariant_of-result : goal.invariant_of-result
 unfolding admitted_set
-invariant_of-result c = (refl, tt)
+invariant_of-result c = record { admitted = refl }
 
 pub returns : goal.returns
 unfolding floor_div x1_of x2_of t_of samples_of s_of x3_of b3_of y3_of b4_of b7_of p_of last_correction_of pa_of up_limit_of

@@ -19,12 +19,12 @@ returns c =
     let fs = c.ranges.samples in
     let r1 : SFits w64 c.times.result = record { sfits = c.times.type_inv } in
     let r2 : SFits w64 c.floor_over.result = record { sfits = c.floor_over.type_inv } in
-    let four = size_product c.args.ac1 (pos 4) 32768 4 c.requires.0 (size_constant 4 4 (lit≤ tt)) in
+    let four = size_product c.args.ac1 (pos 4) 32768 4 c.requires.ac1_small (size_constant 4 4 (lit≤ tt)) in
     let f = fits_size 131072 (c.args.ac1 *ℤ pos 4) (lit< tt) four in
-    let sum = size_sum 131072 6100000 (c.args.ac1 *ℤ pos 4) c.args.x3 four c.requires.1 in
+    let sum = size_sum 131072 6100000 (c.args.ac1 *ℤ pos 4) c.args.x3 four c.requires.x3_small in
     let g = fits_size 6231072 (c.args.ac1 *ℤ pos 4 +ℤ c.args.x3) (lit< tt) sum in
     let b1 = simp to_z-of_z at c.times.ensures.bound in
-    let samples = size_counted 8 c.args.samples c.requires.2 in
+    let samples = size_counted 8 c.args.samples c.requires.samples_within in
     let s = size_sum 49848576 2 c.times.result (pos 2) (b1 6231072 8 sum samples) (size_constant 2 2 (lit≤ tt)) in
     let h = fits_size 49848578 (c.times.result +ℤ pos 2) (lit< tt) s in
     let b2 = simp to_z-of_z at c.floor_over.ensures.bound in

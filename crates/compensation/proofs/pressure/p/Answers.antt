@@ -14,7 +14,7 @@ returns-then-b7-lt2147483648 c =
     let t = simp to_z-of_z at c.if-b7-lt2147483648.true in
     let v = simp to_z-of_z at c.floor_div.ensures.value in
     let s = simp to_z-of_z at c.floor_div.ensures.sign in
-    record { value = simp to_z-of_z (rw t v); range = simp to_z-of_z (s (omega (arith, ints)) c.requires.1) }
+    record { value = simp to_z-of_z (rw t v); range = simp to_z-of_z (s (omega (arith, ints)) c.requires.b4_positive) }
 
 pub returns-else-b7-lt2147483648 : goal.returns-else-b7-lt2147483648
 unfolding p_of
@@ -27,7 +27,7 @@ returns-else-b7-lt2147483648 c =
     let v = simp to_z-of_z at c.floor_div-else-b7-lt2147483648.ensures.value in
     let s = simp to_z-of_z at c.floor_div-else-b7-lt2147483648.ensures.sign in
     let b = simp to_z-of_z at c.floor_div-else-b7-lt2147483648.ensures.bound in
-    let low : pos 0 ≤ℤ r = s c.requires.0.0 c.requires.1 in
+    let low : pos 0 ≤ℤ r = s c.requires.b7_within.0 c.requires.b4_positive in
     let size : Size 1000000000000 r = b 1000000000000 (omega (arith, ints)) in
     let fd : SFits w64 (r *ℤ pos 2) = omega (arith, ints) in
     record { value = simp to_z-of_z (rw (t, v)); range = simp to_z-of_z (omega (arith, ints)) }

@@ -13,7 +13,7 @@ returns c =
     let r1 : SFits w64 c.floor_over.result = record { sfits = c.floor_over.type_inv } in
     let r2 : SFits w64 c.last_correction.result = record { sfits = c.last_correction.type_inv } in
     let s : Size 1100000 (c.args.p +ℤ c.last_correction.result) = omega (arith, ints) in
-    let t = size_sum 1100000 500 (c.args.p +ℤ c.last_correction.result) c.args.pcor s c.requires.1 in
+    let t = size_sum 1100000 500 (c.args.p +ℤ c.last_correction.result) c.args.pcor s c.requires.pcor_small in
     let fs = fits_size 1100000 (c.args.p +ℤ c.last_correction.result) (lit< tt) s in
     let ft = fits_size 1100500 (c.args.p +ℤ c.last_correction.result +ℤ c.args.pcor) (lit< tt) t in
     let v1 = simp to_z-of_z at c.floor_over.ensures.value in

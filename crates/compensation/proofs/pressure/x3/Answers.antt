@@ -15,7 +15,7 @@ returns c =
     let r2 : SFits w64 c.scaled-2.result = record { sfits = c.scaled-2.type_inv } in
     let b1 = simp to_z-of_z at c.scaled.ensures.bound in
     let b2 = simp to_z-of_z at c.scaled-2.ensures.bound in
-    let s = size_sum 5440001 588289 c.scaled.result c.scaled-2.result (b1 32768 340000 c.requires.0 c.requires.3) (b2 32768 36768 c.requires.1 c.requires.2) in
+    let s = size_sum 5440001 588289 c.scaled.result c.scaled-2.result (b1 32768 340000 c.requires.b2_small c.requires.s_small) (b2 32768 36768 c.requires.ac2_small c.requires.b6_small) in
     let ft = fits_size 6028290 (c.scaled.result +ℤ c.scaled-2.result) (lit< tt) s in
     let v1 = simp to_z-of_z at c.scaled.ensures.value in
     let v2 = simp to_z-of_z at c.scaled-2.ensures.value in

@@ -17,7 +17,7 @@ returns c =
     let r3 : SFits w64 c.floor_over.result = record { sfits = c.floor_over.type_inv } in
     let b1 = simp to_z-of_z at c.scaled.ensures.bound in
     let b2 = simp to_z-of_z at c.scaled-2.ensures.bound in
-    let s : Size 317074 (c.scaled.result +ℤ c.scaled-2.result) = size_sum 147073 170001 c.scaled.result c.scaled-2.result (b1 32768 36768 c.requires.0 c.requires.2) (b2 32768 340000 c.requires.1 c.requires.3) in
+    let s : Size 317074 (c.scaled.result +ℤ c.scaled-2.result) = size_sum 147073 170001 c.scaled.result c.scaled-2.result (b1 32768 36768 c.requires.ac3_small c.requires.b6_small) (b2 32768 340000 c.requires.b1_small c.requires.s_small) in
     let t : Size 317076 (c.scaled.result +ℤ c.scaled-2.result +ℤ pos 2) = size_sum 317074 2 (c.scaled.result +ℤ c.scaled-2.result) (pos 2) s (omega (arith, ints)) in
     let fs2 = fits_size 317074 (c.scaled.result +ℤ c.scaled-2.result) (lit< tt) s in
     let ft = fits_size 317076 (c.scaled.result +ℤ c.scaled-2.result +ℤ pos 2) (lit< tt) t in

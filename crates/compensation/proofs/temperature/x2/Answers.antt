@@ -12,9 +12,9 @@ returns c =
     let fc = c.ranges.mc in
     let fd = c.ranges.md in
     let r : SFits w64 c.floor_div.result = record { sfits = c.floor_div.type_inv } in
-    let n = size_product c.args.mc (pos 2048) 32768 2048 c.requires.1 (size_constant 2048 2048 (lit≤ tt)) in
+    let n = size_product c.args.mc (pos 2048) 32768 2048 c.requires.mc_small (size_constant 2048 2048 (lit≤ tt)) in
     let fn = fits_size 67108864 (c.args.mc *ℤ pos 2048) (lit< tt) n in
-    let d = size_sum 262200 32768 c.args.x1 c.args.md c.requires.0 c.requires.2 in
+    let d = size_sum 262200 32768 c.args.x1 c.args.md c.requires.x1_small c.requires.md_small in
     let fs = fits_size 294968 (c.args.x1 +ℤ c.args.md) (lit< tt) d in
     let b = simp to_z-of_z at c.floor_div.ensures.bound in
     let v = simp to_z-of_z at c.floor_div.ensures.value in

@@ -12,7 +12,7 @@ x3-x3-requires c =
     let f2 = fits_size 32768 k.ac2 (lit< tt) b.ac2 in
     let f6 = c.ranges.b6 in
     let rs : SFits w64 c.s-s.result = record { sfits = c.s-s.type_inv } in
-    simp to_z-of_z (b.b2, b.ac2, c.requires, c.s-s.ensures.size)
+    simp to_z-of_z (record { b2_small = b.b2; ac2_small = b.ac2; b6_small = c.requires; s_small = c.s-s.ensures.size })
 
 pub samples-requires : goal.samples-requires
 samples-requires c =
@@ -29,7 +29,7 @@ b3-b3-requires c =
     let f1 = fits_size 32768 k.ac1 (lit< tt) b.ac1 in
     let r3 : SFits w64 c.x3-x3.result = record { sfits = c.x3-x3.type_inv } in
     let rs : SFits w64 c.samples.result = record { sfits = c.samples.type_inv } in
-    simp to_z-of_z (b.ac1, c.x3-x3.ensures.size, c.samples.ensures.range)
+    simp to_z-of_z (record { ac1_small = b.ac1; x3_small = c.x3-x3.ensures.size; samples_within = c.samples.ensures.range })
 
 pub y3-y3-requires : goal.y3-y3-requires
 y3-y3-requires c =
@@ -39,7 +39,7 @@ y3-y3-requires c =
     let f1 = fits_size 32768 k.b1 (lit< tt) b.b1 in
     let f6 = c.ranges.b6 in
     let rs : SFits w64 c.s-s.result = record { sfits = c.s-s.type_inv } in
-    simp to_z-of_z (b.ac3, b.b1, c.requires, c.s-s.ensures.size)
+    simp to_z-of_z (record { ac3_small = b.ac3; b1_small = b.b1; b6_small = c.requires; s_small = c.s-s.ensures.size })
 
 pub b4-b4-requires : goal.b4-b4-requires
 b4-b4-requires c =
@@ -47,7 +47,7 @@ b4-b4-requires c =
     let b = bounded k c.args.self.now.admitted in
     let f4 = fits_size 65535 k.ac4 (lit< tt) b.ac4 in
     let r3 : SFits w64 c.y3-y3.result = record { sfits = c.y3-y3.type_inv } in
-    simp to_z-of_z (b.ac4, c.y3-y3.ensures.size)
+    simp to_z-of_z (record { ac4_small = b.ac4; y3_small = c.y3-y3.ensures.size })
 
 pub returns : goal.returns
 returns c =

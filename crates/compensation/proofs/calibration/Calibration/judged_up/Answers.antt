@@ -20,7 +20,7 @@ worked-requires c =
     let fp = fits_size 500 k.pcor (lit< tt) b.pcor in
     let f4 : SFits w64 c.args.balance.b4 = search rules in
     let r7 : SFits w64 c.b7.result = record { sfits = c.b7.type_inv } in
-    simp to_z-of_z (c.b7.ensures.range, omega (arith, ints), b.pcor)
+    simp to_z-of_z (record { b7_within = c.b7.ensures.range; b4_positive = omega (arith, ints); pcor_small = b.pcor })
 
 pub returns : goal.returns
 returns c =

@@ -22,8 +22,8 @@ returns-then-up-lt0 c =
     let e = simp to_z-of_z at c.up_limit-limit.ensures.value in
     sym (negative k c.args.b5 c.args.up c.up_limit-limit.result e (omega (arith, ints)))
 
-pub returns-then-up_limit : goal.returns-then-up_limit
-returns-then-up_limit c =
+pub returns-then-up-limit : goal.returns-then-up-limit
+returns-then-up-limit c =
     let k = c.args.self.now.values in
     let b = bounded k c.args.self.now.admitted in
     let oss = b.oss in
@@ -34,7 +34,7 @@ returns-then-up_limit c =
 pub judged_up-requires : goal.judged_up-requires
 judged_up-requires c =
     let range = c.up_limit-limit.ensures.range in
-    (omega (arith, ints), c.balance.ensures.b3)
+    record { up_within = omega (arith, ints); b3_small = c.balance.ensures.b3 }
 
 pub returns : goal.returns
 returns c =

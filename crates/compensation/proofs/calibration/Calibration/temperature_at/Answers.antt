@@ -12,7 +12,7 @@ x1-x1-requires c =
     let b = bounded k c.args.self.now.admitted in
     let f5 = fits_size 65535 k.ac5 (lit< tt) b.ac5 in
     let f6 = fits_size 65535 k.ac6 (lit< tt) b.ac6 in
-    simp to_z-of_z ((omega (arith, ints), omega (arith, ints)), b.ac5, b.ac6)
+    simp to_z-of_z (record { ut_within = (omega (arith, ints), omega (arith, ints)); ac5_small = b.ac5; ac6_small = b.ac6 })
 
 pub overflow_add-x1 : goal.overflow_add-x1
 overflow_add-x1 c =
@@ -41,7 +41,7 @@ x2-requires c =
     let fd = fits_size 32768 k.md (lit< tt) b.md in
     let d = b.md in
     let n : (c.x1-x1.result +ℤ k.md ≡ pos 0 → ⊥) = λ z. omega (arith, ints) in
-    simp to_z-of_z (c.x1-x1.ensures.size, b.mc, b.md, n)
+    simp to_z-of_z (record { x1_small = c.x1-x1.ensures.size; mc_small = b.mc; md_small = b.md; divisor_nonzero = n })
 
 pub returns : goal.returns
 returns c =

@@ -15,4 +15,4 @@ pub invariant_of-self : goal.invariant_of-self
 invariant_of-self c =
     let s = c.args.self.now in
     let w = well_formed_with c.args.pair (pairs_in s.table) (sym c.if-not-admits.ensures) s.ok in
-    (c.lay.ensures.few, (ap well_formed c.lay.ensures.pairs ∙ w, tt))
+    record { few = c.lay.ensures.few; ok = ap well_formed c.lay.ensures.pairs ∙ w }

@@ -18,7 +18,7 @@ invariant_of-self c =
     let left = replicate s.width Blank in
     let table = refilled_over s c.args.bank c.as_mut_slice.result.now c.make_blank.new.cells left c.requires c.as_mut_slice.ensures.value c.make_blank.ensures (length-replicate s.width Blank) in
     let fit = over_fits (items s) (c.args.bank * s.width) left s.values (blank_fits s.width) in
-    (s.shape, (s.filled, (s.fits, (ap values_fit table ∙ fit, (s.places, tt)))))
+    record { shape = s.shape; filled = s.filled; fits = s.fits; values = ap values_fit table ∙ fit; places = s.places }
 
 pub returns : goal.returns
 returns c =

@@ -22,7 +22,7 @@ invariant_of-self c =
     let wrote = c.cut_erase.ensures ∙ ap (λ z. over c.as_mut_slice.result.now from (bank_residue s.pattern (take s.width (drop from z)))) slice in
     let table = refilled_over s c.args.bank c.as_mut_slice.result.now c.cut_erase.new.cells left c.requires slice wrote size in
     let fit = over_fits (items s) from left s.values (bank_residue_fits s.pattern row (part_fits (items s) from s.width s.values)) in
-    (s.shape, (s.filled, (s.fits, (ap values_fit table ∙ fit, (s.places, tt)))))
+    record { shape = s.shape; filled = s.filled; fits = s.fits; values = ap values_fit table ∙ fit; places = s.places }
 
 pub returns : goal.returns
 returns c =

@@ -23,7 +23,7 @@ invariant_of-result c =
     let left : c.make_blank.new.cells ≡ blank = c.make_blank.ensures ∙ over_whole c.as_mut_slice.result.now blank full in
     let long : length c.make_blank.new.cells ≡ t.len = ap length left ∙ length-replicate (b * w) Blank ∙ sym m.full in
     let table = with_items_is t c.make_blank.new.cells long ∙ left in
-    (m.shape, (m.full, (lit< tt, (ap values_fit table ∙ blank_fits (b * w), ((refl, lit≤ tt, lit≤ tt), tt)))))
+    record { shape = m.shape; filled = m.full; fits = lit< tt; values = ap values_fit table ∙ blank_fits (b * w); places = (refl, lit≤ tt, lit≤ tt) }
 
 pub returns : goal.returns
 returns c =

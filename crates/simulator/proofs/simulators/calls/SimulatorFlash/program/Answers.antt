@@ -25,7 +25,7 @@ invariant_of-self c =
     let s = c.args.self.now in
     let value : c.args.value < 2 ^ 64 = omega arith in
     let left : ValueFits c.program_residue.result = subst ValueFits (sym c.program_residue.ensures) (program_residue_fits s.residue c.args.value value) in
-    (s.shape, (s.filled, (s.fits, (set_fits (items s) (c.args.bank * s.width + c.args.unit) c.program_residue.result left s.values, (s.places, tt)))))
+    record { shape = s.shape; filled = s.filled; fits = s.fits; values = set_fits (items s) (c.args.bank * s.width + c.args.unit) c.program_residue.result left s.values; places = s.places }
 
 pub returns-then-self-eq0 : goal.returns-then-self-eq0
 returns-then-self-eq0 c =
@@ -52,7 +52,7 @@ pub invariant_of-self-2 : goal.invariant_of-self-2
 invariant_of-self-2 c =
     let s = c.args.self.now in
     let value : c.args.value < 2 ^ 64 = omega arith in
-    (s.shape, (s.filled, (omega arith, (set_fits (items s) (c.args.bank * s.width + c.args.unit) (Programmed c.args.value) value s.values, (s.places, tt)))))
+    record { shape = s.shape; filled = s.filled; fits = omega arith; values = set_fits (items s) (c.args.bank * s.width + c.args.unit) (Programmed c.args.value) value s.values; places = s.places }
 
 pub returns : goal.returns
 returns c =
