@@ -4,6 +4,7 @@ ghost use Rattle.flash.specs.Causes.{cause_of};
 ghost use Rattle.flash.specs.Seen.{seen};
 ghost use Rattle.flash.specs.Calls.{Read, Program, Erase, PoweredUp};
 ghost use Rattle.mirror.specs.Mirrored.{mixed, mixed_units, mirrored};
+ghost use Rattle.mirror.proofs.Mirroring.{mirrored_formed};
 ghost use Rattle.mirror.specs.MirrorSides.{mirror_fault, ReadSides, ProgramSides, EraseSides, SideCuts};
 
 use crate::mirror_faults::MirrorFault;
@@ -70,7 +71,7 @@ impl<A: Flash, B: Flash> Mirror<A, B> {
         unit: usize,
         value: u64,
     ) -> Result<(), MirrorFault<A::Fault, B::Fault>>
-        ensures { ProgramSides Fault-as-FlashFault-1 Fault-as-FlashFault-2 (seen A.Flash self.old.first) (seen B.Flash self.old.second) (seen A.Flash self.new.first) (seen B.Flash self.new.second) bank unit value result }
+        ensures { ProgramSides A.Fault.FlashFault B.Fault.FlashFault (seen A.Flash self.old.first) (seen B.Flash self.old.second) (seen A.Flash self.new.first) (seen B.Flash self.new.second) bank unit value result }
     {
         if let Err(e) = self.first.program(bank, unit, value) {
             return Err(MirrorFault::First(bank, Some(unit), e));
@@ -83,7 +84,7 @@ impl<A: Flash, B: Flash> Mirror<A, B> {
 
     // Erases a bank of the second side, and of the first only if that completed.
     fn erase_sides(&mut self, bank: usize) -> Result<(), MirrorFault<A::Fault, B::Fault>>
-        ensures { EraseSides Fault-as-FlashFault-1 Fault-as-FlashFault-2 (seen A.Flash self.old.first) (seen B.Flash self.old.second) (seen A.Flash self.new.first) (seen B.Flash self.new.second) bank result }
+        ensures { EraseSides A.Fault.FlashFault B.Fault.FlashFault (seen A.Flash self.old.first) (seen B.Flash self.old.second) (seen A.Flash self.new.first) (seen B.Flash self.new.second) bank result }
     {
         if let Err(e) = self.second.erase(bank) {
             return Err(MirrorFault::Second(bank, None, e));
@@ -106,6 +107,8 @@ impl<A: Flash, B: Flash> Flash for Mirror<A, B> {
 
     ghost charge = { λ m. min (A.Flash.charge m.first) (B.Flash.charge m.second) };
 
+    ghost formed = { λ m. mirrored_formed (seen A.Flash m.first) (seen B.Flash m.second) (A.Flash.formed m.first) (B.Flash.formed m.second) };
+
     fn banks(&self) -> usize {
         self.first.banks().min(self.second.banks())
     }
@@ -117,7 +120,7 @@ impl<A: Flash, B: Flash> Flash for Mirror<A, B> {
     }
 
     fn read(&self, bank: usize, unit: usize) -> Result<Unit, MirrorFault<A::Fault, B::Fault>>
-        ensures reads { Read (mirror_fault Fault-as-FlashFault-1 Fault-as-FlashFault-2) (mirrored (seen A.Flash self.now.first) (seen B.Flash self.now.second)) bank unit result }
+        ensures reads { Read (mirror_fault A.Fault.FlashFault B.Fault.FlashFault) (mirrored (seen A.Flash self.now.first) (seen B.Flash self.now.second)) bank unit result }
         ensures sides { ReadSides (seen A.Flash self.now.first) (seen B.Flash self.now.second) bank unit result }
     {
         if !is_on(&self.first) || !is_on(&self.second) {
@@ -143,9 +146,9 @@ impl<A: Flash, B: Flash> Flash for Mirror<A, B> {
         unit: usize,
         value: u64,
     ) -> Result<(), MirrorFault<A::Fault, B::Fault>>
-        ensures programs { Program (mirror_fault Fault-as-FlashFault-1 Fault-as-FlashFault-2) (mirrored (seen A.Flash self.old.first) (seen B.Flash self.old.second)) bank unit value (mirrored (seen A.Flash self.new.first) (seen B.Flash self.new.second)) result }
-        ensures sides { ProgramSides Fault-as-FlashFault-1 Fault-as-FlashFault-2 (seen A.Flash self.old.first) (seen B.Flash self.old.second) (seen A.Flash self.new.first) (seen B.Flash self.new.second) bank unit value result }
-        ensures cuts { SideCuts Fault-as-FlashFault-1 Fault-as-FlashFault-2 result }
+        ensures programs { Program (mirror_fault A.Fault.FlashFault B.Fault.FlashFault) (mirrored (seen A.Flash self.old.first) (seen B.Flash self.old.second)) bank unit value (mirrored (seen A.Flash self.new.first) (seen B.Flash self.new.second)) result }
+        ensures sides { ProgramSides A.Fault.FlashFault B.Fault.FlashFault (seen A.Flash self.old.first) (seen B.Flash self.old.second) (seen A.Flash self.new.first) (seen B.Flash self.new.second) bank unit value result }
+        ensures cuts { SideCuts A.Fault.FlashFault B.Fault.FlashFault result }
     {
         match self.read(bank, unit)? {
             Unit::Blank => self.program_sides(bank, unit, value),
@@ -154,9 +157,9 @@ impl<A: Flash, B: Flash> Flash for Mirror<A, B> {
     }
 
     fn erase(&mut self, bank: usize) -> Result<(), MirrorFault<A::Fault, B::Fault>>
-        ensures erases { Erase (mirror_fault Fault-as-FlashFault-1 Fault-as-FlashFault-2) (mirrored (seen A.Flash self.old.first) (seen B.Flash self.old.second)) bank (mirrored (seen A.Flash self.new.first) (seen B.Flash self.new.second)) result }
-        ensures sides { EraseSides Fault-as-FlashFault-1 Fault-as-FlashFault-2 (seen A.Flash self.old.first) (seen B.Flash self.old.second) (seen A.Flash self.new.first) (seen B.Flash self.new.second) bank result }
-        ensures cuts { SideCuts Fault-as-FlashFault-1 Fault-as-FlashFault-2 result }
+        ensures erases { Erase (mirror_fault A.Fault.FlashFault B.Fault.FlashFault) (mirrored (seen A.Flash self.old.first) (seen B.Flash self.old.second)) bank (mirrored (seen A.Flash self.new.first) (seen B.Flash self.new.second)) result }
+        ensures sides { EraseSides A.Fault.FlashFault B.Fault.FlashFault (seen A.Flash self.old.first) (seen B.Flash self.old.second) (seen A.Flash self.new.first) (seen B.Flash self.new.second) bank result }
+        ensures cuts { SideCuts A.Fault.FlashFault B.Fault.FlashFault result }
     {
         if !is_on(&self.first) || !is_on(&self.second) {
             return Err(own(Why::Off, bank, None));

@@ -11,6 +11,6 @@ returns g c =
     let b = seen g.B.Flash c.args.self.now.second in
     let on : (mirrored a b).on ≡ true = and_from a.on b.on (sym c.is_on.ensures ∙ c.if-not-is_on.false) (sym c.is_on-else-not-is_on.ensures ∙ c.if-not-is_on-2.false) in
     let there : c.args.bank < length (mirrored a b).units = omega (arith, c.banks.ensures.count, c.if-bank-banks.false) in
-    let both = erase_by_sides g.Fault-as-FlashFault-1 g.Fault-as-FlashFault-2 a b c.args.bank (g.met.A.Flash.formed c.args.self.now.first) (g.met.B.Flash.formed c.args.self.now.second) on there
+    let both = erase_by_sides g.A.Fault.FlashFault g.B.Fault.FlashFault a b c.args.bank (g.met.A.Flash.formed c.args.self.now.first) (g.met.B.Flash.formed c.args.self.now.second) on there
     (seen g.A.Flash c.erase_sides.new.self.first) (seen g.B.Flash c.erase_sides.new.self.second) c.erase_sides.result c.erase_sides.ensures in
     record { erases = both.0; sides = c.erase_sides.ensures; cuts = both.1 }

@@ -35,7 +35,7 @@ invariant_of-self c =
     let i = unit_place (image_width bs) c.args.bank 0 in
     let n = 9 * (image_width bs / 2) in
     let left = at_unit (λ z k w. switched_off (with_zeros z k (9 * (w / 2)))) c.as_mut_slice.result.now bs c.cut_erase.new.bytes c.place-at.result c.units_per_bank-width.result c.args.bank 0 c.cut_erase.ensures c.as_mut_slice.ensures.value c.place-at.ensures c.units_per_bank-width.ensures.count in
-    (still_opened m c.cut_erase.new.bytes (switched_off (with_zeros bs i n)) (i + n) left (cut_erase_same_but bs i (omega arith) n), tt)
+    record { opened = still_opened m c.cut_erase.new.bytes (switched_off (with_zeros bs i n)) (i + n) left (cut_erase_same_but bs i (omega arith) n) }
 
 pub returns-then-charge_of-eq0 : goal.returns-then-charge_of-eq0
 returns-then-charge_of-eq0 c =
@@ -69,7 +69,7 @@ invariant_of-self-2 c =
     let i = unit_place (image_width bs) c.args.bank 0 in
     let n = 9 * image_width bs in
     let left = at_unit (λ z k w. paid (with_zeros z k (9 * w))) c.as_mut_slice-2.result.now bs c.erase_units.new.bytes c.place-at.result c.units_per_bank-width.result c.args.bank 0 c.erase_units.ensures c.as_mut_slice-2.ensures.value c.place-at.ensures c.units_per_bank-width.ensures.count in
-    (still_opened m c.erase_units.new.bytes (paid (with_zeros bs i n)) (i + n) left (erase_same_but bs i (omega arith) n), tt)
+    record { opened = still_opened m c.erase_units.new.bytes (paid (with_zeros bs i n)) (i + n) left (erase_same_but bs i (omega arith) n) }
 
 pub returns : goal.returns
 returns c =

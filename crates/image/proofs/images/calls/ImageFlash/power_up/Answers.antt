@@ -11,7 +11,7 @@ invariant_of-self c =
     let m = c.args.self.now in
     let bs = image_bytes m in
     let left = c.turn_on.ensures ∙ ap image_after_power_up c.as_mut_slice.ensures.value in
-    (still_opened m c.turn_on.new.bytes (image_after_power_up bs) 17 left (power_up_same_but bs), tt)
+    record { opened = still_opened m c.turn_on.new.bytes (image_after_power_up bs) 17 left (power_up_same_but bs) }
 
 pub returns : goal.returns
 returns c =

@@ -14,7 +14,7 @@ use Rattle.image.proofs.images.calls.ImageFlash.program.Goals as goal
 pub returns-in_err-read : goal.returns-in_err-read
 returns-in_err-read c =
     let s = image_flash (image_bytes c.args.self.now) in
-    let p = err_from_is_err_and c.from-residual.result c.from-residual.ensures.1 in
+    let p = err_from_is_err_and c.from_residual.result c.from_residual.ensures.1 in
     let why = c.in_err-read.ensures.reads in
     let low = unread_refusal s c.args.bank c.args.unit why.refused in
     rw (p.1, p.2) record {
@@ -57,7 +57,7 @@ invariant_of-self c =
     let bs = image_bytes m in
     let i = unit_place (image_width bs) c.args.bank c.args.unit in
     let left = at_unit (λ z k w. switched_off (set z k 2)) c.as_mut_slice.result.now bs c.cut_program.new.bytes c.place-at.result c.units_per_bank.result c.args.bank c.args.unit c.cut_program.ensures c.as_mut_slice.ensures.value c.place-at.ensures c.units_per_bank.ensures.count in
-    (still_opened m c.cut_program.new.bytes (switched_off (set bs i 2)) (i + 9) left (cut_program_same_but bs i (omega arith)), tt)
+    record { opened = still_opened m c.cut_program.new.bytes (switched_off (set bs i 2)) (i + 9) left (cut_program_same_but bs i (omega arith)) }
 
 pub returns-then-charge_of-eq0 : goal.returns-then-charge_of-eq0
 returns-then-charge_of-eq0 c =
@@ -89,7 +89,7 @@ invariant_of-self-2 c =
     let v = c.args.value in
     let i = unit_place (image_width bs) c.args.bank c.args.unit in
     let left = at_unit (λ z k w. paid (unit_written z k v)) c.as_mut_slice-2.result.now bs c.program_unit.new.bytes c.place-at.result c.units_per_bank.result c.args.bank c.args.unit c.program_unit.ensures c.as_mut_slice-2.ensures.value c.place-at.ensures c.units_per_bank.ensures.count in
-    (still_opened m c.program_unit.new.bytes (paid (unit_written bs i v)) (i + 9) left (program_same_but bs i (omega arith) v), tt)
+    record { opened = still_opened m c.program_unit.new.bytes (paid (unit_written bs i v)) (i + 9) left (program_same_but bs i (omega arith) v) }
 
 pub returns : goal.returns
 returns c =
