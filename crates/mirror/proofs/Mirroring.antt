@@ -15,15 +15,11 @@ use Rattle.flash.specs.Causes.{why_number, cause_number}
 use Rattle.mirror.specs.declared.mirror_faults.MirrorFault.{MirrorFault}
 use Rattle.mirror.specs.declared.mirror_faults.MirrorFault.TheVariants.{Own, First, Second}
 use Rattle.mirror.specs.MirrorSides.{mirror_fault, OwnRefusal, ProgramSides, EraseSides, SideCuts}
+use Rattle.mirror.specs.Formed.{beside_length}
 use Rattle.mirror.specs.Mirrored.{mixed, beside, mixed_units, mirrored}
 use Rattle.flash.proofs.Refusals.{bank_length, program_refusal_open, read_refusal_open, erase_refusal_open, read_refusal_parts, charge_left, charge_out, number_cut, number_done}
 
 -- lists side by side
-pub beside_length : {X Y Z : Type 0} (f : X → Y → Z) (xs : List X) (ys : List Y) → length (beside f xs ys) ≡ min (length xs) (length ys)
-beside_length f [] ys = omega arith
-beside_length f (x ∷ xs) [] = omega arith
-beside_length f (x ∷ xs) (y ∷ ys) = omega (arith, beside_length f xs ys)
-
 pub beside_get_or : {X Y Z : Type 0} (f : X → Y → Z) (xs : List X) (ys : List Y) (i : ℕ) (d : X) (e : Y) (z : Z) → i < length xs → i < length ys → get_or (beside f xs ys) i z ≡ f (get_or xs i d) (get_or ys i e)
 beside_get_or f [] ys i d e z h k = absurd (omega arith)
 beside_get_or f (x ∷ xs) [] i d e z h k = absurd (omega arith)
@@ -97,39 +93,6 @@ same_bank c b = ap (λ us. flash_state us c.width c.on c.charge) (set-get_or c.u
 
 pub same_unit : (c : FlashState) (b u : ℕ) → with_unit c b u (unit_at c b u) ≡ c
 same_unit c b u = ap (with_bank c b) (set-get_or (bank_of c b) u Blank) ∙ same_bank c b
-
--- the shape
-shape : (m n : ℕ) (xs ys : List (List Cell)) → All (λ bank. length bank ≡ m) xs → All (λ bank. length bank ≡ n) ys → All (λ bank. length bank ≡ min m n) (mixed_units xs ys)
-shape m n [] ys h k = tt
-shape m n (x ∷ xs) [] h k = tt
-shape m n (x ∷ xs) (y ∷ ys) h k = (let e = beside_length mixed x y in let p = h.0 in let q = k.0 in omega arith, shape m n xs ys h.1 k.1)
-
-mixed_fits : (x y : Cell) → ValueFits x → ValueFits y → ValueFits (mixed x y)
-mixed_fits Blank Blank h k = tt
-mixed_fits Blank (Programmed v) h k = tt
-mixed_fits Blank Unreadable h k = tt
-mixed_fits (Programmed v) y h k = h
-mixed_fits Unreadable Blank h k = tt
-mixed_fits Unreadable (Programmed v) h k = k
-mixed_fits Unreadable Unreadable h k = tt
-
-bank_fits : (xs ys : List Cell) → All ValueFits xs → All ValueFits ys → All ValueFits (beside mixed xs ys)
-bank_fits [] ys h k = tt
-bank_fits (x ∷ xs) [] h k = tt
-bank_fits (x ∷ xs) (y ∷ ys) h k = (mixed_fits x y h.0 k.0, bank_fits xs ys h.1 k.1)
-
-values : (xs ys : List (List Cell)) → All (All ValueFits) xs → All (All ValueFits) ys → All (All ValueFits) (mixed_units xs ys)
-values [] ys h k = tt
-values (x ∷ xs) [] h k = tt
-values (x ∷ xs) (y ∷ ys) h k = (bank_fits x y h.0 k.0, values xs ys h.1 k.1)
-
-pub mirrored_formed : (a b : FlashState) → WellFormed a → WellFormed b → WellFormed (mirrored a b)
-mirrored_formed a b s t =
-    let size = beside_length (beside mixed) a.units b.units in
-    let banks : length (mixed_units a.units b.units) ≤ length a.units = omega arith in
-    let wide : min a.width b.width ≤ a.width = omega arith in
-    let most = mul-le-mul banks wide in
-    record { shape = shape a.width b.width a.units b.units s.shape t.shape; size = omega (arith, most, s.size); fits = omega (arith, s.fits); values = values a.units b.units s.values t.values }
 
 module _ (a b : FlashState) (k : ℕ) where
   pub mirrored_with_bank : (xs ys : List Cell) → mirrored (with_bank a k xs) (with_bank b k ys) ≡ with_bank (mirrored a b) k (beside mixed xs ys)

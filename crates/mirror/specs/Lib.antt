@@ -1,3 +1,4 @@
 pub mod Mirrored
 pub mod MirrorFaults
 pub mod MirrorSides
+pub mod Formed

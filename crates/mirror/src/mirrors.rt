@@ -4,7 +4,7 @@ ghost use Rattle.flash.specs.Causes.{cause_of};
 ghost use Rattle.flash.specs.Seen.{seen};
 ghost use Rattle.flash.specs.Calls.{Read, Program, Erase, PoweredUp};
 ghost use Rattle.mirror.specs.Mirrored.{mixed, mixed_units, mirrored};
-ghost use Rattle.mirror.proofs.Mirroring.{mirrored_formed};
+ghost use Rattle.mirror.specs.Formed.{mirrored_formed};
 ghost use Rattle.mirror.specs.MirrorSides.{mirror_fault, ReadSides, ProgramSides, EraseSides, SideCuts};
 
 use crate::mirror_faults::MirrorFault;

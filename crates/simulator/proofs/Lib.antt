@@ -1,1 +1,5 @@
+pub mod Cuts
+pub mod Fitting
 pub mod Making
+pub mod Rows
+pub mod Simulating

@@ -4,8 +4,7 @@ ghost use Rattle.flash.specs.Calls.{Program, Erase, PoweredUp};
 ghost use Rattle.image.specs.contracts.image_faults.ImageFaultFlashFault.TheImpl.{ghosts as fault_ghosts};
 ghost use Rattle.image.specs.ImageOpening.{image_bytes};
 ghost use Rattle.image.specs.ImageStates.{image_units, image_width, image_on, image_charge, image_flash, unit_place, image_after_program, image_after_erase, image_after_power_up};
-ghost use Rattle.image.specs.ImageFlashes.{image_formed};
-ghost use Rattle.image.specs.ImageCalls.{opened_of};
+ghost use Rattle.image.specs.Formed.{image_formed, opened};
 
 use crate::image_faults::ImageFault;
 use crate::image_fields::{HEADER_SIZE, UNIT_SIZE, banks_of, charge_of, is_on, unit_in, width_of};
@@ -44,7 +43,7 @@ impl Flash for Image {
 
     ghost charge = { λ m. image_charge (image_bytes m) };
 
-    ghost formed = { λ m. image_formed (image_bytes m) (opened_of m) };
+    ghost formed = { λ m. image_formed (image_bytes m) (opened (image_bytes m) m.opened) };
 
     fn banks(&self) -> usize {
         banks_of(self.bytes.as_slice())

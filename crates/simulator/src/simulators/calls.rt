@@ -5,7 +5,7 @@ ghost use Rattle.flash.specs.Calls.{Program, Erase, PoweredUp};
 ghost use Rattle.simulator.specs.contracts.simulator_faults.SimulatorFaultFlashFault.TheImpl.{ghosts as fault_ghosts};
 ghost use Rattle.simulator.specs.Tables.{rows};
 ghost use Rattle.simulator.specs.SimulatorStates.{state_of, flash_of, with_bank_blank, with_bank_cut, paid, turned_off, next_entry, after_power_up, after_program, after_erase};
-ghost use Rattle.simulator.specs.Simulating.{table_formed, items, full_of};
+ghost use Rattle.simulator.specs.Formed.{table_formed, items, full_of};
 
 use crate::residues::{cut_erase, make_blank, program_residue};
 use crate::simulator_faults::SimulatorFault;

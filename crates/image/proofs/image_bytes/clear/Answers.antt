@@ -1,5 +1,5 @@
 use Rattle.std.proofs.Common.{◌+◌, set, sym, ap, ◌∙◌}
-use Rattle.image.specs.ImageNumbers.{zeros_none, zeros_more}
+use Rattle.image.proofs.ImageNumbers.{zeros_none, zeros_more}
 use Rattle.image.proofs.image_bytes.clear.Goals as goal
 
 pub loop-i-init : goal.loop-i-init

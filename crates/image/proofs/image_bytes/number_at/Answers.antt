@@ -1,5 +1,5 @@
 use Rattle.std.proofs.Common.{◌+◌, sym, arith}
-use Rattle.image.specs.ImageNumbers.{be_none, be_more, be_small}
+use Rattle.image.proofs.ImageNumbers.{be_none, be_more, be_small}
 use Rattle.image.proofs.image_bytes.number_at.Goals as goal
 
 pub loop-i-init : goal.loop-i-init

@@ -1,6 +1,6 @@
 use Rattle.std.proofs.Common.{◌≡◌, ◌+◌, ◌-◌, sym, refl, ap, ◌∙◌, arith}
 use Rattle.image.specs.ImageBytes.{with_be}
-use Rattle.image.specs.ImageNumbers.{put_none, put_more}
+use Rattle.image.proofs.ImageNumbers.{put_none, put_more}
 use Rattle.image.proofs.image_bytes.put_number.Goals as goal
 
 pub loop-i-init : goal.loop-i-init

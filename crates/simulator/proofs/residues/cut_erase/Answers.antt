@@ -2,8 +2,8 @@ use Rattle.std.proofs.Common.{◌≡◌, ◌+◌, get_or, take, drop, set, sym, 
 use Rattle.simulator.specs.Tables.{over}
 use Rattle.simulator.specs.Residues.{unit_residue, residue_from}
 use Rattle.flash.specs.declared.units.Unit.TheVariants.{Blank}
-use Rattle.simulator.specs.Rows.{over_none}
-use Rattle.simulator.specs.Cuts.{cut_step, cut_all}
+use Rattle.simulator.proofs.Rows.{over_none}
+use Rattle.simulator.proofs.Cuts.{cut_step, cut_all}
 use Rattle.simulator.proofs.residues.cut_erase.Goals as goal
 
 pub loop-u-init : goal.loop-u-init

@@ -1,7 +1,7 @@
 use Rattle.std.proofs.Common.{◌+◌, set, ap, ◌∙◌, arith}
 use Rattle.flash.specs.declared.units.Unit.TheVariants.{Blank}
-use Rattle.simulator.specs.Rows.{over_none}
-use Rattle.simulator.specs.Cuts.{blank_step}
+use Rattle.simulator.proofs.Rows.{over_none}
+use Rattle.simulator.proofs.Cuts.{blank_step}
 use Rattle.simulator.proofs.residues.make_blank.Goals as goal
 
 pub loop-u-init : goal.loop-u-init

@@ -1,6 +1,6 @@
 use Rattle.std.proofs.Common.{arith}
 use Rattle.mirror.specs.Mirrored.{mixed, beside}
-use Rattle.mirror.proofs.Mirroring.{beside_length}
+use Rattle.mirror.specs.Formed.{beside_length}
 use Rattle.mirror.proofs.mirrors.MirrorFlash.banks.Goals as goal
 
 pub returns : goal.returns

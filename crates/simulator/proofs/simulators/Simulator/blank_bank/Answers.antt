@@ -1,10 +1,11 @@
 use Rattle.std.proofs.Common.{◌≡◌, ◌*◌, replicate, ap, ◌∙◌, arith}
 use Rattle.std.proofs.lemmas.List.{length-replicate}
 use Rattle.flash.specs.declared.units.Unit.TheVariants.{Blank}
+use Rattle.simulator.specs.Formed.{items}
 use Rattle.simulator.specs.SimulatorStates.{state_of, with_table}
 use Rattle.simulator.specs.Tables.{values_fit}
-use Rattle.simulator.specs.Fitting.{over_fits, blank_fits}
-use Rattle.simulator.specs.Simulating.{items, row_of, refilled_over}
+use Rattle.simulator.proofs.Fitting.{over_fits, blank_fits}
+use Rattle.simulator.proofs.Simulating.{row_of, refilled_over}
 use Rattle.simulator.proofs.simulators.Simulator.blank_bank.Goals as goal
 
 pub make_blank-requires : goal.make_blank-requires

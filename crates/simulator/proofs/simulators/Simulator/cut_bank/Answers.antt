@@ -1,9 +1,10 @@
 use Rattle.std.proofs.Common.{◌≡◌, ◌*◌, false, take, drop, ap, ◌∙◌, arith}
+use Rattle.simulator.specs.Formed.{full_of, items}
 use Rattle.simulator.specs.SimulatorStates.{state_of, with_table}
 use Rattle.simulator.specs.Residues.{bank_residue}
 use Rattle.simulator.specs.Tables.{over, values_fit}
-use Rattle.simulator.specs.Fitting.{over_fits, part_fits, bank_residue_fits}
-use Rattle.simulator.specs.Simulating.{items, full_of, row_of, row_residue_length, refilled_over}
+use Rattle.simulator.proofs.Fitting.{over_fits, part_fits, bank_residue_fits}
+use Rattle.simulator.proofs.Simulating.{row_of, row_residue_length, refilled_over}
 use Rattle.simulator.proofs.simulators.Simulator.cut_bank.Goals as goal
 
 pub cut_erase-requires : goal.cut_erase-requires

@@ -6,9 +6,9 @@ use Rattle.flash.specs.declared.units.Unit.TheVariants.{Blank}
 use Rattle.simulator.specs.Shapes.{make_refusal}
 use Rattle.simulator.specs.SimulatorStates.{new_simulator, with_table}
 use Rattle.simulator.specs.Tables.{values_fit}
-use Rattle.simulator.specs.Fitting.{blank_fits}
+use Rattle.simulator.proofs.Fitting.{blank_fits}
 use Rattle.simulator.proofs.Making.{makes}
-use Rattle.simulator.specs.Rows.{over_whole}
+use Rattle.simulator.proofs.Rows.{over_whole}
 use Rattle.simulator.proofs.simulators.Simulator.new.Goals as goal
 
 pub invariant_of-result : goal.invariant_of-result

@@ -1,7 +1,7 @@
 use Rattle.std.proofs.Common.{sym, ap, ◌∙◌}
 use Rattle.image.specs.ImageOpening.{image_bytes}
 use Rattle.image.specs.ImageStates.{image_banks}
-use Rattle.image.specs.ImageFlashes.{banks_count}
+use Rattle.image.proofs.ImageFlashes.{banks_count}
 use Rattle.image.proofs.images.calls.ImageFlash.banks.Goals as goal
 
 pub returns : goal.returns

@@ -6,8 +6,8 @@ use Rattle.image.specs.ImageOpening.{image_bytes}
 use Rattle.image.specs.ImageBytes.{with_zeros}
 use Rattle.image.specs.ImageStates.{image_on, image_charge, image_banks, image_width, unit_place, image_flash, paid, switched_off}
 use Rattle.flash.proofs.Refusals.{by_done, by_cut}
-use Rattle.image.specs.ImageFlashes.{banks_count, in_bank, bank_room, width_few, erase_done_state, half_bank, half_allowed, erase_cut_state, erase_same_but, cut_erase_same_but}
-use Rattle.image.specs.ImageCalls.{at_unit, opened_of, rewritten, still_opened}
+use Rattle.image.proofs.ImageFlashes.{banks_count, in_bank, bank_room, width_few, erase_done_state, half_bank, half_allowed, erase_cut_state, erase_same_but, cut_erase_same_but}
+use Rattle.image.proofs.ImageCalls.{at_unit, opened_of, rewritten, still_opened}
 use Rattle.image.proofs.images.calls.ImageFlash.erase.Goals as goal
 
 pub place-at-requires : goal.place-at-requires

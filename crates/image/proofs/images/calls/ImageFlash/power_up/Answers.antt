@@ -1,9 +1,9 @@
 use Rattle.std.proofs.Common.{ap, ◌∙◌}
+use Rattle.image.specs.Formed.{be_below}
 use Rattle.image.specs.ImageOpening.{image_bytes}
 use Rattle.image.specs.ImageStates.{image_flash, image_supply, image_after_power_up}
-use Rattle.image.specs.ImageNumbers.{be_below}
-use Rattle.image.specs.ImageFlashes.{flash_power_up, power_up_same_but}
-use Rattle.image.specs.ImageCalls.{opened_of, rewritten, still_opened}
+use Rattle.image.proofs.ImageFlashes.{flash_power_up, power_up_same_but}
+use Rattle.image.proofs.ImageCalls.{opened_of, rewritten, still_opened}
 use Rattle.image.proofs.images.calls.ImageFlash.power_up.Goals as goal
 
 pub invariant_of-self : goal.invariant_of-self

@@ -7,8 +7,8 @@ use Rattle.flash.proofs.Keeping.{program_cut, program_done, program_unread}
 use Rattle.image.specs.ImageOpening.{image_bytes}
 use Rattle.image.specs.ImageStates.{image_charge, image_width, unit_place, image_flash, paid, switched_off, unit_written}
 use Rattle.flash.proofs.Refusals.{by_done, by_cut, by_same}
-use Rattle.image.specs.ImageFlashes.{unit_room, width_few, program_done_state, program_cut_state, program_same_but, cut_program_same_but}
-use Rattle.image.specs.ImageCalls.{at_unit, cut_refusal, free_of, unread_refusal, taken_refusal, program_taken, opened_of, rewritten, still_opened, there_of}
+use Rattle.image.proofs.ImageFlashes.{unit_room, width_few, program_done_state, program_cut_state, program_same_but, cut_program_same_but}
+use Rattle.image.proofs.ImageCalls.{at_unit, cut_refusal, free_of, unread_refusal, taken_refusal, program_taken, opened_of, rewritten, still_opened, there_of}
 use Rattle.image.proofs.images.calls.ImageFlash.program.Goals as goal
 
 pub returns-in_err-read : goal.returns-in_err-read

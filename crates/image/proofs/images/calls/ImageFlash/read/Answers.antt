@@ -4,8 +4,8 @@ use Rattle.flash.proofs.Refusals.{read_refusal_open}
 use Rattle.flash.proofs.Keeping.{read_missing}
 use Rattle.image.specs.ImageOpening.{image_bytes}
 use Rattle.image.specs.ImageStates.{image_banks, image_width, image_on, image_units, unit_place, unit_from, image_flash}
-use Rattle.image.specs.ImageFlashes.{banks_count, in_bank, width_few, unit_room, unit_is}
-use Rattle.image.specs.ImageCalls.{opened_of}
+use Rattle.image.proofs.ImageFlashes.{banks_count, in_bank, width_few, unit_room, unit_is}
+use Rattle.image.proofs.ImageCalls.{opened_of}
 use Rattle.image.proofs.images.calls.ImageFlash.read.Goals as goal
 
 pub returns-then-bank-banks_of : goal.returns-then-bank-banks_of

@@ -1,6 +1,5 @@
 use Rattle.std.proofs.Common.{sym}
-use Rattle.simulator.specs.Rows.{rows_length}
-use Rattle.simulator.specs.Simulating.{items}
+use Rattle.simulator.specs.Formed.{items, rows_length}
 use Rattle.simulator.proofs.simulators.calls.SimulatorFlash.banks.Goals as goal
 
 pub returns : goal.returns

@@ -4,11 +4,12 @@ use Rattle.flash.specs.declared.units.Unit.TheVariants.{Blank, Programmed}
 use Rattle.flash.specs.FlashState.{unit_at, ValueFits}
 use Rattle.flash.specs.Causes.{cause_number, cause_place}
 use Rattle.flash.proofs.Keeping.{program_cut, program_done}
+use Rattle.simulator.specs.Formed.{full_of, items, table_state}
 use Rattle.simulator.specs.SimulatorStates.{state_of, flash_of, with_table, turned_off}
 use Rattle.simulator.specs.Residues.{program_residue}
-use Rattle.simulator.specs.Cuts.{residue_allowed}
-use Rattle.simulator.specs.Fitting.{set_fits, program_residue_fits}
-use Rattle.simulator.specs.Simulating.{table_state, table_unit, items, simulated, full_of, there_of, place_of, program_state_cut, program_state_done}
+use Rattle.simulator.proofs.Cuts.{residue_allowed}
+use Rattle.simulator.proofs.Fitting.{set_fits, program_residue_fits}
+use Rattle.simulator.proofs.Simulating.{table_unit, simulated, there_of, place_of, program_state_cut, program_state_done}
 use Rattle.simulator.proofs.simulators.calls.SimulatorFlash.program.Goals as goal
 
 pub overflow_mul-at : goal.overflow_mul-at

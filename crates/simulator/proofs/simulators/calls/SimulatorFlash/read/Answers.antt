@@ -4,8 +4,8 @@ use Rattle.flash.specs.declared.units.Unit.TheVariants.{Blank}
 use Rattle.flash.specs.Causes.{cause_number, cause_place}
 use Rattle.flash.proofs.Refusals.{read_refusal_open}
 use Rattle.flash.proofs.Keeping.{read_missing}
-use Rattle.simulator.specs.Rows.{rows_length}
-use Rattle.simulator.specs.Simulating.{simulated, items, full_of, table_unit_at, in_bank, place_fits}
+use Rattle.simulator.specs.Formed.{full_of, items, rows_length}
+use Rattle.simulator.proofs.Simulating.{simulated, table_unit_at, in_bank, place_fits}
 use Rattle.simulator.proofs.simulators.calls.SimulatorFlash.read.Goals as goal
 use Rattle.simulator.proofs.simulators.calls.SimulatorFlash.read.Goals.{then-bank-self-via-then-bank-self, then-bank-self-via-else-bank-self+then-unit-self}
 

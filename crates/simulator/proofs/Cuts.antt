@@ -8,7 +8,7 @@ use Rattle.flash.specs.declared.units.Unit.TheVariants.{Blank, Programmed, Unrea
 use Rattle.flash.specs.Calls.{ProgramResidue, EraseResidue}
 use Rattle.simulator.specs.Tables.{over}
 use Rattle.simulator.specs.Residues.{program_residue, pattern_bits, unit_residue, residue_from, bank_residue}
-use Rattle.simulator.specs.Rows.{over_step, over_past, over_none}
+use Rattle.simulator.proofs.Rows.{over_step, over_past, over_none}
 
 program_residue_by : (p q : Bool) (v : ℕ) → ProgramResidue v (cond p Blank (cond q (Programmed v) Unreadable))
 program_residue_by true q v = inl refl

@@ -10,11 +10,12 @@ use Rattle.flash.specs.declared.units.Unit.TheVariants.{Blank, Programmed, Unrea
 use Rattle.flash.specs.FlashState.{FlashState, unit_at, is_blank}
 use Rattle.flash.specs.Calls.{read_refusal, program_refusal, ProgramRefused}
 use Rattle.flash.proofs.Refusals.{read_refusal_parts, program_refusal_open, number_cut}
+use Rattle.image.specs.Formed.{Opened, opened}
 use Rattle.image.specs.declared.images.Image.{Image}
 use Rattle.image.specs.ImageOpening.{image_bytes}
 use Rattle.image.specs.ImageStates.{image_banks, image_width, open_refusal, unit_place, image_flash}
-use Rattle.image.specs.ImageNumbers.{SameBut}
-use Rattle.image.specs.ImageFlashes.{Opened, opened, open_kept, banks_count}
+use Rattle.image.proofs.ImageNumbers.{SameBut}
+use Rattle.image.proofs.ImageFlashes.{open_kept, banks_count}
 
 not_blank : (x : Cell) → (x ≢ Blank) → is_blank x ≡ false
 not_blank Blank h = absurd (h refl)

@@ -8,9 +8,10 @@ use Rattle.std.proofs.lemmas.Bool.{cases_eq, cases_lt}
 use Rattle.flash.specs.declared.units.Unit.TheVariants.{Blank, Programmed, Unreadable}
 use Rattle.flash.specs.FlashState.{ValueFits}
 use Rattle.flash.specs.Calls.{EraseResidue}
+use Rattle.image.specs.Formed.{be_below}
 use Rattle.image.specs.ImageBytes.{be_at, with_zeros}
 use Rattle.image.specs.ImageStates.{unit_place, unit_from, bank_from, banks_from, unit_written}
-use Rattle.image.specs.ImageNumbers.{SameBut, both, set_same_but, put_same_but, zeros_same_but, be_kept_below, be_kept_above, be_below, put_read, zeros_read}
+use Rattle.image.proofs.ImageNumbers.{SameBut, both, set_same_but, put_same_but, zeros_same_but, be_kept_below, be_kept_above, put_read, zeros_read}
 
 -- lists made from functions of the index
 module _ {X : Type 0} (f g : ℕ → X) where
@@ -37,10 +38,6 @@ module _ {X : Type 0} (f g : ℕ → X) where
 
   pub each_counted : (R : X → X → Type 0) (n : ℕ) → ((k : ℕ) → k < n → R (f k) (g k)) → AllZip R (map {A = ℕ} {B = X} f (range_with_len 0 n)) (map {A = ℕ} {B = X} g (range_with_len 0 n))
   each_counted R n h = each_from R 0 n (λ k p q. h k (omega arith))
-
-pub all_counted : {X : Type 0} (P : X → Type 0) (f : ℕ → X) (a n : ℕ) → ((k : ℕ) → P (f k)) → All P (map {A = ℕ} {B = X} f (range_with_len a n))
-all_counted P f a zero h = tt
-all_counted P f a (suc n) h = (h a, all_counted P f (a + 1) n h)
 
 -- where units stand
 pub row_before : (w b c u : ℕ) → c < b → u < w → (c * w + u) + 1 ≤ b * w
@@ -122,12 +119,3 @@ module _ (bs : List ℕ) (w b : ℕ) (room : unit_place w b 0 + 9 * w ≤ length
       let lo = unit_place w b 0 in
       let hi = unit_place w b 0 + 9 * (w / 2) in
       each_counted (λ u. unit_from bs (unit_place w b u)) (λ u. unit_from cs (unit_place w b u)) EraseResidue w (λ u h. ⊎_elim (λ (l : u < w / 2). inr (inl (blank_unit cs (unit_place w b u) (zeros_read bs lo (9 * (w / 2)) (unit_place w b u) (omega arith) (omega arith) (omega arith))))) (λ (l : w / 2 ≤ u). inl (unit_kept_above bs cs lo hi (zeros_same_but bs lo (9 * (w / 2)) lo hi (omega arith) (omega arith)) (unit_place w b u) (omega arith))) (cases_lt u (w / 2)))
-
--- values have 64 bits
-value_fits : (p q : Bool) (bs : List ℕ) (i : ℕ) → ValueFits (cond p Blank (cond q (Programmed (be_at bs i 8)) Unreadable))
-value_fits true q bs i = tt
-value_fits false true bs i = be_below bs i 8
-value_fits false false bs i = tt
-
-pub unit_fits : (bs : List ℕ) (i : ℕ) → ValueFits (unit_from bs i)
-unit_fits bs i = value_fits (slice_index bs i == 0) (slice_index bs i == 1) bs (i + 1)

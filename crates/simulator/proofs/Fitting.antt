@@ -6,22 +6,14 @@ use Rattle.std.proofs.lemmas.Bool.{ltb-true, lt-ltb, and_parts, and_from}
 use Rattle.flash.specs.declared.units.Unit.{Unit as Cell}
 use Rattle.flash.specs.declared.units.Unit.TheVariants.{Blank, Programmed, Unreadable}
 use Rattle.flash.specs.FlashState.{ValueFits}
+use Rattle.simulator.specs.Formed.{values_from}
 use Rattle.simulator.specs.Tables.{rows, over, value_fits, values_fit}
 use Rattle.simulator.specs.Residues.{program_residue, unit_residue, residue_from, bank_residue, pattern_bits}
-
-value_from : (x : Cell) → value_fits x ≡ true → ValueFits x
-value_from Blank h = tt
-value_from (Programmed v) h = ltb-true v (2 ^ 64) h
-value_from Unreadable h = tt
 
 value_to : (x : Cell) → ValueFits x → value_fits x ≡ true
 value_to Blank h = refl
 value_to (Programmed v) h = lt-ltb v (2 ^ 64) h
 value_to Unreadable h = refl
-
-pub values_from : (xs : List Cell) → values_fit xs ≡ true → All ValueFits xs
-values_from [] h = tt
-values_from (x ∷ xs) h = let p = and_parts (value_fits x) (values_fit xs) h in (value_from x p.0, values_from xs p.1)
 
 pub values_to : (xs : List Cell) → All ValueFits xs → values_fit xs ≡ true
 values_to [] h = refl
@@ -47,10 +39,6 @@ over_fits xs u ys h k = values_to (over xs u ys) (all_over xs u ys (values_from 
 
 pub part_fits : (xs : List Cell) (u n : ℕ) → values_fit xs ≡ true → values_fit (take n (drop u xs)) ≡ true
 part_fits xs u n h = values_to (take n (drop u xs)) (All-take ValueFits n (drop u xs) (All-drop ValueFits u xs (values_from xs h)))
-
-pub rows_fit : (n w : ℕ) (xs : List Cell) → All ValueFits xs → All (All ValueFits) (rows n w xs)
-rows_fit zero w xs h = tt
-rows_fit (suc n) w xs h = (All-take ValueFits w xs h, rows_fit n w (drop w xs) (All-drop ValueFits w xs h))
 
 -- what a cut leaves
 program_by : (p q : Bool) (v : ℕ) → v < 2 ^ 64 → ValueFits (cond p Blank (cond q (Programmed v) Unreadable))

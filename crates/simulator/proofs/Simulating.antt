@@ -8,23 +8,17 @@ use Rattle.flash.specs.declared.units.Unit.TheVariants.{Blank, Programmed, Unrea
 use Rattle.flash.specs.FlashState.{FlashState, flash_state, WellFormed, unit_at, bank_of, with_unit, with_bank}
 use Rattle.flash.specs.Calls.{EraseResidue, read_refusal, program_refusal, erase_refusal}
 use Rattle.flash.proofs.Refusals.{by_done, by_cut, by_same}
+use Rattle.simulator.specs.Formed.{full_of, items, rows_length, table_state}
 use Rattle.simulator.specs.SimulatorStates.{SimulatorState, flash_of, paid, turned_off, with_cell, with_bank_blank, with_bank_cut, after_program, after_erase}
 use Rattle.simulator.specs.Tables.{rows, over, values_fit}
 use Rattle.simulator.specs.Residues.{program_residue, bank_residue}
 use Rattle.std.specs.Vec.{with_items}
 use Rattle.simulator.specs.declared.simulators.Simulator.{Simulator}
 use Rattle.flash.proofs.Refusals.{read_refusal_parts}
-use Rattle.simulator.specs.Rows.{rows_length, rows_shape, rows_row, rows_over, rows_set, over_length}
-use Rattle.simulator.specs.Cuts.{each_residue, residue_length}
-use Rattle.simulator.specs.Fitting.{values_from, rows_fit}
-
-abbrev pub table_state : ℕ → ℕ → List Cell → Bool → ℕ → FlashState
-table_state n w xs p k = flash_state (rows n w xs) w p k
+use Rattle.simulator.proofs.Rows.{rows_row, rows_over, rows_set, over_length}
+use Rattle.simulator.proofs.Cuts.{each_residue, residue_length}
 
 module _ (n w : ℕ) (xs : List Cell) (p : Bool) (k : ℕ) (full : length xs ≡ n * w) where
-  pub table_formed : n * w ≤ 4096 → k < 2 ^ 32 → values_fit xs ≡ true → WellFormed (table_state n w xs p k)
-  table_formed small fits values = record { shape = rows_shape n w xs (omega arith); size = rw rows_length small; fits = fits; values = rows_fit n w xs (values_from xs values) }
-
   module _ (b : ℕ) (there : b < n) where
     pub in_bank : b < length (rows n w xs)
     in_bank = rw rows_length there
@@ -50,15 +44,8 @@ module _ (n w : ℕ) (xs : List Cell) (p : Bool) (k : ℕ) (full : length xs ≡
     pub row_residue_length : (q : ℕ) → length (bank_residue q (take w (drop (b * w) xs))) ≡ w
     row_residue_length q = let r = row_fits in residue_length q 0 (take w (drop (b * w) xs)) ∙ simp (length-take, length-drop) (omega arith)
 
--- the simulator's own table
-abbrev pub items : Simulator → List Cell
-items s = vec_items s.table
-
 abbrev pub simulated : Simulator → FlashState
 simulated s = table_state s.banks s.width (items s) s.on s.charge
-
-pub full_of : (s : Simulator) → length (items s) ≡ s.banks * s.width
-full_of s = omega (arith, s.table.ok.0, s.filled)
 
 pub there_of : (s : Simulator) (b u : ℕ) → read_refusal (simulated s) b u ≡ 0 → (b < s.banks) × (u < s.width)
 there_of s b u z =

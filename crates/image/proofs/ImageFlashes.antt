@@ -10,22 +10,11 @@ use Rattle.flash.specs.declared.units.Unit.{Unit as Cell}
 use Rattle.flash.specs.declared.units.Unit.TheVariants.{Blank, Programmed, Unreadable}
 use Rattle.flash.specs.FlashState.{flash_state, WellFormed, ValueFits, unit_at, bank_of, with_unit, with_bank, after_write, after_cut}
 use Rattle.flash.specs.Calls.{EraseResidue}
+use Rattle.image.specs.Formed.{all_counted, be_below, unit_fits}
 use Rattle.image.specs.ImageBytes.{with_be, with_zeros}
 use Rattle.image.specs.ImageStates.{image_banks, image_width, image_charge, image_supply, image_on, image_units, open_refusal, unit_place, unit_from, bank_from, banks_from, image_flash, paid, switched_off, unit_written, image_after_power_up}
-use Rattle.image.specs.ImageNumbers.{SameBut, wider, both, set_same_but, put_same_but, zeros_same_but, be_kept_below, be_below, put_read}
-use Rattle.image.specs.ImageUnits.{all_counted, row_after, units_kept, bank_written, unit_in_bank, written_unit, cut_unit, written_same_but, erased_bank, half_erased, unit_fits}
-
--- what the check before opening says
-pub record Opened (bs : List ℕ) : Type 0 where
-  pub header : 17 ≤ length bs
-  pub few : image_banks bs ≤ 16
-  pub units : 1 ≤ image_width bs
-  pub small : image_banks bs * image_width bs ≤ 4096
-  pub full : length bs ≡ 17 + 9 * (image_banks bs * image_width bs)
-
-pub opened : (bs : List ℕ) → open_refusal bs ≡ 0 → Opened bs
-opened bs h =
-    record { header = grind (arith, nat_tests); few = grind (arith, nat_tests); units = grind (arith, nat_tests); small = grind (arith, nat_tests); full = grind (arith, nat_tests) }
+use Rattle.image.proofs.ImageNumbers.{SameBut, wider, both, set_same_but, put_same_but, zeros_same_but, be_kept_below, put_read}
+use Rattle.image.proofs.ImageUnits.{row_after, units_kept, bank_written, unit_in_bank, written_unit, cut_unit, written_same_but, erased_bank, half_erased}
 
 -- writes from byte 8 on keep what the check looks at
 pub open_kept : (bs cs : List ℕ) (lo hi : ℕ) → SameBut bs cs lo hi → 8 ≤ lo → open_refusal bs ≡ 0 → open_refusal cs ≡ 0
@@ -36,16 +25,6 @@ open_kept bs cs lo hi s h o =
     let width = be_kept_below bs cs lo hi 6 2 s (omega arith) in
     let long = s.long in
     simp (mark, version, banks, width, long) o
-
--- well_formed
-pub image_formed : (bs : List ℕ) → Opened bs → WellFormed (image_flash bs)
-image_formed bs o =
-    record {
-      shape = all_counted (λ bank. length bank ≡ image_width bs) (λ b. bank_from bs (image_width bs) b) 0 (image_banks bs) (λ b. length-map-range_with_len (λ u. unit_from bs (unit_place (image_width bs) b u)) 0 (image_width bs));
-      size = rw length-map-range_with_len o.small;
-      fits = be_below bs 8 4;
-      values = all_counted (All ValueFits) (λ b. bank_from bs (image_width bs) b) 0 (image_banks bs) (λ b. all_counted ValueFits (λ u. unit_from bs (unit_place (image_width bs) b u)) 0 (image_width bs) (λ u. unit_fits bs (unit_place (image_width bs) b u)));
-    }
 
 pub banks_count : (bs : List ℕ) → length (image_units bs) ≡ image_banks bs
 banks_count bs = length-map-range_with_len (λ b. bank_from bs (image_width bs) b) 0 (image_banks bs)

@@ -5,6 +5,7 @@ use Rattle.std.proofs.Math.Nat.{pow-zero, pow-le-pow_right, mod-mod, mod-one, on
 use Rattle.std.proofs.Math.Arith.{mod-mul}
 use Rattle.std.proofs.lemmas.List.{length-set, get_or-set_same, get_or-set_other}
 use Rattle.std.proofs.lemmas.Bool.{cases_eq}
+use Rattle.image.specs.Formed.{be_below}
 use Rattle.image.specs.ImageBytes.{be_at, with_be, with_zeros}
 
 -- none, and one byte more
@@ -31,12 +32,6 @@ zeros_none bs i = refl
 pub zeros_more : (bs : List ℕ) (i n : ℕ) → with_zeros bs i (n + 1) ≡ slice_set (with_zeros bs i n) (i + n) 0
 unfolding with_zeros
 zeros_more bs i n = rw add-one
-
--- n bytes spell a number below 256 to the power n
-pub be_below : (bs : List ℕ) (i n : ℕ) → be_at bs i n < 256 ^ n
-unfolding be_at
-be_below bs i zero = rw pow-zero (lit< tt)
-be_below bs i (suc n) = let h = be_below bs i n in rw pow-suc (omega arith)
 
 -- fewer than eight leave room for one more
 pub be_small : (bs : List ℕ) (i n : ℕ) → n < 8 → be_at bs i n < 72057594037927936

@@ -3,20 +3,10 @@ use Rattle.std.specs.Prelude.{◌≡◌, ℕ, zero, suc, ◌+◌, ◌-◌, ◌*�
 use Rattle.std.proofs.Common.{sym, ap, ◌∙◌, subst, append_assoc, arith, add_assoc, add-zero, zero-add, suc-add, zero-mul, suc-mul, add_comm, rules}
 use Rattle.std.specs.List.{AllByRecursion as All}
 use Rattle.std.proofs.lemmas.List.{places, take-append-drop, length-take-le, length-drop, length-append, length-take, take_at, drop_at, drop_more, set_at, get_or-take, get_or-drop, take-set-le, drop-set-lt, drop-set-add, append-nil, drop-drop, drop_all}
+use Rattle.simulator.specs.Formed.{rows_length}
 use Rattle.simulator.specs.Tables.{rows, over}
 
 module _ {X : Type 0} where
-  pub rows_length : (n w : ℕ) (xs : List X) → length (rows n w xs) ≡ n
-  rows_length zero w xs = refl
-  rows_length (suc n) w xs = ap suc (rows_length n w (drop w xs))
-
-  pub rows_shape : (n w : ℕ) (xs : List X) → n * w ≤ length xs → All (λ row. length row ≡ w) (rows n w xs)
-  rows_shape zero w xs h = tt
-  rows_shape (suc n) w xs h =
-      let e = suc-mul n w in
-      let size = length-drop w xs in
-      (length-take-le w xs (omega arith), rows_shape n w (drop w xs) (omega arith))
-
   pub rows_row : (n w b : ℕ) (xs : List X) → b < n → slice_index_or (rows n w xs) b [] ≡ take w (drop (b * w) xs)
   rows_row zero w b xs h = absurd (omega arith)
   rows_row (suc n) w zero xs h = rw zero-mul

@@ -1,0 +1,4 @@
+pub mod ImageNumbers
+pub mod ImageUnits
+pub mod ImageFlashes
+pub mod ImageCalls
