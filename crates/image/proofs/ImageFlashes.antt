@@ -10,7 +10,7 @@ use Rattle.flash.specs.declared.units.Unit.{Unit as Cell}
 use Rattle.flash.specs.declared.units.Unit.TheVariants.{Blank, Programmed, Unreadable}
 use Rattle.flash.specs.FlashState.{flash_state, WellFormed, ValueFits, unit_at, bank_of, with_unit, with_bank, after_write, after_cut}
 use Rattle.flash.specs.Calls.{EraseResidue}
-use Rattle.image.specs.Formed.{all_counted, be_below, unit_fits}
+use Rattle.image.specs.Formed.{Opened, all_counted, be_below, unit_fits}
 use Rattle.image.specs.ImageBytes.{with_be, with_zeros}
 use Rattle.image.specs.ImageStates.{image_banks, image_width, image_charge, image_supply, image_on, image_units, open_refusal, unit_place, unit_from, bank_from, banks_from, image_flash, paid, switched_off, unit_written, image_after_power_up}
 use Rattle.image.proofs.ImageNumbers.{SameBut, wider, both, set_same_but, put_same_but, zeros_same_but, be_kept_below, put_read}

@@ -1,6 +1,7 @@
 // Two flashes of any kinds that hold the same.
 ghost use Rattle.std.specs.Prelude.{◌≡◌, min, ◌&&◌};
 ghost use Rattle.flash.specs.Causes.{cause_of};
+ghost use Rattle.flash.specs.FlashState.{flash_state};
 ghost use Rattle.flash.specs.Seen.{seen};
 ghost use Rattle.flash.specs.Calls.{Read, Program, Erase, PoweredUp};
 ghost use Rattle.mirror.specs.Mirrored.{mixed, mixed_units, mirrored};
@@ -107,7 +108,7 @@ impl<A: Flash, B: Flash> Flash for Mirror<A, B> {
 
     ghost charge = { λ m. min (A.Flash.charge m.first) (B.Flash.charge m.second) };
 
-    ghost formed = { λ m. mirrored_formed (seen A.Flash m.first) (seen B.Flash m.second) (A.Flash.formed m.first) (B.Flash.formed m.second) };
+    ghost formed = { λ m. mirrored_formed (flash_state (A.units m.first) (A.width m.first) (A.power m.first) (A.charge m.first)) (flash_state (B.units m.second) (B.width m.second) (B.power m.second) (B.charge m.second)) (A.formed m.first) (B.formed m.second) };
 
     fn banks(&self) -> usize {
         self.first.banks().min(self.second.banks())
