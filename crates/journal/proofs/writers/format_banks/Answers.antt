@@ -7,7 +7,7 @@ use Rattle.journal.proofs.writers.format_banks.Goals as goal
 
 pub returns-in-Err : goal.returns-in-Err
 returns-in-Err g c =
-    let t = g.Fault.FlashFault in
+    let t = g.F.Fault.FlashFault in
     let s = seen g.F.Flash c.args.flash.now in
     let s' = seen g.F.Flash c.erase.new.self in
     let w : Performed {A = Unit {0}} t formatting s s' (Err c.in-Err.fault) = search rules in
@@ -15,7 +15,7 @@ returns-in-Err g c =
 
 pub returns-in-Err-erase : goal.returns-in-Err-erase
 returns-in-Err-erase g c =
-    let t = g.Fault.FlashFault in
+    let t = g.F.Fault.FlashFault in
     let s = seen g.F.Flash c.args.flash.now in
     let s' = seen g.F.Flash c.erase-2.new.self in
     let w : Performed {A = Unit {0}} t formatting s s' (Err c.in-Err-erase.fault) = search rules in
@@ -23,7 +23,7 @@ returns-in-Err-erase g c =
 
 pub returns : goal.returns
 returns g c =
-    let t = g.Fault.FlashFault in
+    let t = g.F.Fault.FlashFault in
     let s = seen g.F.Flash c.args.flash.now in
     let s' = seen g.F.Flash c.program.new.self in
     let w : Performed t formatting s s' c.program.result = search rules in

@@ -11,7 +11,7 @@ use Rattle.journal.proofs.writers.program_records.Goals.{in-Some+in-Ok, in_defau
 pub loop-i-init : goal.loop-i-init
 loop-i-init g c = (
   omega arith,
-  onward_none g.Fault.FlashFault ℕ (records c.args.bank c.args.from (pairs_of c.args.pairs.now)) (seen g.F.Flash c.args.flash.now),
+  onward_none g.F.Fault.FlashFault ℕ (records c.args.bank c.args.from (pairs_of c.args.pairs.now)) (seen g.F.Flash c.args.flash.now),
 )
 
 pub overflow_add-at : goal.overflow_add-at
@@ -25,7 +25,7 @@ returns-in-Err g c =
     let h' : c.loop-i.i < length (map record_value ps) = omega (arith, length-map ps record_value) in
     record {
       writes =
-          row_stopped g.Fault.FlashFault ℕ (records c.args.bank c.args.from ps) (seen g.F.Flash c.args.flash.now) c.args.bank c.loop-i.at (map record_value ps) c.loop-i.i
+          row_stopped g.F.Fault.FlashFault ℕ (records c.args.bank c.args.from ps) (seen g.F.Flash c.args.flash.now) c.args.bank c.loop-i.at (map record_value ps) c.loop-i.i
           (seen g.F.Flash c.loop-i.flash) (seen g.F.Flash c.program.new.self) h' c.encode_record.result
           (record_at ps c.loop-i.i c.in-Some.pair h c.in-Some.ensures ∙ sym c.encode_record.ensures.value) c.loop-i.invariant.1 c.in-Err.fault c.in-Err.ensures.programs;
       next = tt;
@@ -41,9 +41,9 @@ loop-i-preserved g c =
     elim c.match-at.branch [
       | in-Some+in-Ok w ↦ (
         omega (arith, w.at-is, c.loop-i.invariant.0),
-        subst (λ f. Onward g.Fault.FlashFault ℕ ws s (programs c.args.bank c.match-at.at (drop (c.loop-i.i + 1) (map record_value ps))) (seen g.F.Flash f)) (sym w.flash-is)
-            (subst (λ u. Onward g.Fault.FlashFault ℕ ws s (programs c.args.bank u (drop (c.loop-i.i + 1) (map record_value ps))) (seen g.F.Flash w.program.new.self)) (sym w.at-is)
-            (row_more g.Fault.FlashFault ℕ ws s c.args.bank c.loop-i.at (map record_value ps) c.loop-i.i (seen g.F.Flash c.loop-i.flash) (seen g.F.Flash w.program.new.self) h' w.encode_record.result
+        subst (λ f. Onward g.F.Fault.FlashFault ℕ ws s (programs c.args.bank c.match-at.at (drop (c.loop-i.i + 1) (map record_value ps))) (seen g.F.Flash f)) (sym w.flash-is)
+            (subst (λ u. Onward g.F.Fault.FlashFault ℕ ws s (programs c.args.bank u (drop (c.loop-i.i + 1) (map record_value ps))) (seen g.F.Flash w.program.new.self)) (sym w.at-is)
+            (row_more g.F.Fault.FlashFault ℕ ws s c.args.bank c.loop-i.at (map record_value ps) c.loop-i.i (seen g.F.Flash c.loop-i.flash) (seen g.F.Flash w.program.new.self) h' w.encode_record.result
             (record_at ps c.loop-i.i w.in-Some.pair h w.in-Some.ensures ∙ sym w.encode_record.ensures.value) c.loop-i.invariant.1 w.in-Ok.ensures.programs)),
       )
       | in_default w ↦ absurd (record_there ps c.loop-i.i c.at.result h c.at.ensures w.in_default.not-Some)
@@ -55,7 +55,7 @@ returns g c =
     let h : length (map record_value ps) ≤ c.loop-i.i = omega (arith, length-map ps record_value, c.len-i-end.ensures, c.loop-i-test.false) in
     record {
       writes =
-          row_end g.Fault.FlashFault ℕ (records c.args.bank c.args.from ps) (seen g.F.Flash c.args.flash.now) c.args.bank c.loop-i.at (map record_value ps) c.loop-i.i
+          row_end g.F.Fault.FlashFault ℕ (records c.args.bank c.args.from ps) (seen g.F.Flash c.args.flash.now) c.args.bank c.loop-i.at (map record_value ps) c.loop-i.i
           (seen g.F.Flash c.loop-i.flash) (seen g.F.Flash c.loop-i.flash) c.loop-i.at h c.loop-i.invariant.1;
       next = omega (arith, c.loop-i.invariant.0, c.loop-i.auto.i-end, c.len-i-end.ensures, c.loop-i-test.false);
     }

@@ -10,5 +10,5 @@ use Rattle.journal.proofs.writers.program_records.Given as goal
 abbrev pub invariant-loop-i : goal.invariant-loop-i
 invariant-loop-i g l =
     (l.at ≡ l.initial.at + l.i)
-    × Onward g.Fault.FlashFault ℕ (records l.bank l.initial.at (pairs_of l.pairs)) (seen g.F.Flash l.initial.flash)
+    × Onward g.F.Fault.FlashFault ℕ (records l.bank l.initial.at (pairs_of l.pairs)) (seen g.F.Flash l.initial.flash)
     (programs l.bank l.at (drop l.i (map record_value (pairs_of l.pairs)))) (seen g.F.Flash l.flash)

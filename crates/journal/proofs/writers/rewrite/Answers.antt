@@ -14,7 +14,7 @@ overflow_cast-len g c = record { fits = omega (arith, c.len.ensures, well_formed
 pub returns-in-Ok-program_records : goal.returns-in-Ok-program_records
 returns-in-Ok-program_records g c =
     let ps = pairs_of c.args.pairs.now in
-    let t = g.Fault.FlashFault in
+    let t = g.F.Fault.FlashFault in
     let b = c.args.bank in
     let s = seen g.F.Flash c.args.flash.now in
     let k = seen g.F.Flash c.erase.new.self in
@@ -30,7 +30,7 @@ returns-in-Ok-program_records g c =
 pub returns-in-Err-program_records : goal.returns-in-Err-program_records
 returns-in-Err-program_records g c =
     let ps = pairs_of c.args.pairs.now in
-    let t = g.Fault.FlashFault in
+    let t = g.F.Fault.FlashFault in
     let b = c.args.bank in
     let s = seen g.F.Flash c.args.flash.now in
     let k = seen g.F.Flash c.erase.new.self in

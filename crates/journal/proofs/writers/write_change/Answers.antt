@@ -9,7 +9,7 @@ use Rattle.journal.proofs.writers.write_change.Goals as goal
 
 pub returns-then-is_room : goal.returns-then-is_room
 returns-then-is_room g c =
-    let t = g.Fault.FlashFault in
+    let t = g.F.Fault.FlashFault in
     let s = seen g.F.Flash c.args.flash.now in
     let s' = seen g.F.Flash c.append.new.flash in
     let r = reading_of c.args.standing.now in
@@ -22,7 +22,7 @@ returns-then-is_room g c =
 
 pub returns-else-is_room : goal.returns-else-is_room
 returns-else-is_room g c =
-    let t = g.Fault.FlashFault in
+    let t = g.F.Fault.FlashFault in
     let s = seen g.F.Flash c.args.flash.now in
     let s' = seen g.F.Flash c.rewrite.new.flash in
     let r = reading_of c.args.standing.now in

@@ -10,7 +10,7 @@ returns-in-Ok g c =
     let s = seen g.F.Flash c.args.flash.now in
     let p = seen g.F.Flash c.power_up.new.self in
     let s' = seen g.F.Flash c.format_banks.new.flash in
-    format_run g.Fault.FlashFault s p s' (Ok c.in-Ok.field-0) c.power_up.ensures.powers c.in-Ok.ensures.writes c.in-Ok.ensures.empty
+    format_run g.F.Fault.FlashFault s p s' (Ok c.in-Ok.field-0) c.power_up.ensures.powers c.in-Ok.ensures.writes c.in-Ok.ensures.empty
 
 pub returns-in-Err : goal.returns-in-Err
 returns-in-Err g c =
@@ -18,4 +18,4 @@ returns-in-Err g c =
     let p = seen g.F.Flash c.power_up.new.self in
     let s' = seen g.F.Flash c.format_banks.new.flash in
     subst (λ (x : ℕ × Option ℕ). FormatRun s (Err (WriteStopped x)) s') (sym c.place.ensures)
-    (format_run g.Fault.FlashFault s p s' (Err c.in-Err.fault) c.power_up.ensures.powers c.in-Err.ensures.writes c.in-Err.ensures.empty)
+    (format_run g.F.Fault.FlashFault s p s' (Err c.in-Err.fault) c.power_up.ensures.powers c.in-Err.ensures.writes c.in-Err.ensures.empty)

@@ -12,7 +12,7 @@ use Rattle.store.proofs.flashes.write.Goals as goal
 
 pub returns-in-Ok : goal.returns-in-Ok
 returns-in-Ok g c =
-    let t = g.Fault.FlashFault in
+    let t = g.F.Fault.FlashFault in
     let s = seen g.F.Flash c.args.flash.now in
     let s' = seen g.F.Flash c.write_change.new.flash in
     let r = reading_of c.args.standing.now in
@@ -23,7 +23,7 @@ returns-in-Ok g c =
 
 pub returns-in-Err : goal.returns-in-Err
 returns-in-Err g c =
-    let t = g.Fault.FlashFault in
+    let t = g.F.Fault.FlashFault in
     let s = seen g.F.Flash c.args.flash.now in
     let s' = seen g.F.Flash c.write_change.new.flash in
     let r = reading_of c.args.standing.now in
