@@ -80,7 +80,7 @@ fn run(rt: &impl Print) -> anyhow::Result<()> {
     show_coefficients(rt, k.values())?;
     let w = match k.temperature(UT) {
         Ok(w) => w,
-        Err(refusal) => return Err(refusal.meaning().into()),
+        Err(refusal) => return Err(anyhow::Error::msg(refusal.meaning())),
     };
     show_temperature(rt, UT, w)?;
     try_pressure(rt, &k, w.b5, UP)?;

@@ -15,8 +15,8 @@ returns-in_err-judge g c =
     let m' = moment g.F.Flash c.judge.new.self in
     let shown = c.args.ticket.number in
     let why = c.in_err-judge.field-0.0 in
-    let is : c.from-residual.result ≡ Err why = search rules in
-    let e : Entry = Abandon shown c.from-residual.result in
+    let is : c.from_residual.result ≡ Err why = search rules in
+    let e : Entry = Abandon shown c.from_residual.result in
     let d : Does m e m' =
     subst (λ (r : Result (Unit {0}) Refusal). Does m (Abandon shown r) m') (sym is) (abandons_err m.memory m m' shown why c.in_err-judge.ensures) in
     record { does = d; tied = keeps_tied m e m' d; ledger = follows_ledger m e m' d }

@@ -14,9 +14,9 @@ returns-in_err-number g c =
     let m = moment g.F.Flash c.args.self.now in
     let m' = moment g.F.Flash c.judge.new.self in
     let why = c.in_err-number.field-0.0 in
-    let is : c.from-residual.result ≡ Err why = search rules in
-    let same : ticket_number c.from-residual.result ≡ Err why = ap ticket_number is in
-    let e : Entry = Begin (ticket_number c.from-residual.result) in
+    let is : c.from_residual.result ≡ Err why = search rules in
+    let same : ticket_number c.from_residual.result ≡ Err why = ap ticket_number is in
+    let e : Entry = Begin (ticket_number c.from_residual.result) in
     let d : Does m e m' = subst (λ (r : Result ℕ Refusal). Does m (Begin r) m') (sym same) c.in_err-number.ensures in
     record { does = d; tied = keeps_tied m e m' d; ledger = follows_ledger m e m' d }
 

@@ -19,8 +19,8 @@ returns-in_err-judge g c =
     let m' = moment g.F.Flash c.judge.new.self in
     let f : List Pair → ℕ → Result (Option ℤ) Refusal = λ ps number. get_answer ps c.args.key in
     let why = c.in_err-judge.field-0.0 in
-    let is : c.from-residual.result ≡ Err why = search rules in
-    let e : Entry = Get c.args.key c.from-residual.result in
+    let is : c.from_residual.result ≡ Err why = search rules in
+    let e : Entry = Get c.args.key c.from_residual.result in
     let d : Does m e m' = subst (λ (r : Result (Option ℤ) Refusal). Does m (Get c.args.key r) m') (sym is) (looks_cold m m' f why c.in_err-judge.ensures) in
     record { does = d; tied = keeps_tied m e m' d; ledger = follows_ledger m e m' d }
 

@@ -22,8 +22,8 @@ returns-in_err-number g c =
     let up = c.args.up in
     let f : List Pair → ℕ → Result Line Refusal = λ ps number. pressure_answer ps number st up in
     let why = c.in_err-number.field-0.0 in
-    let is : c.from-residual.result ≡ Err why = search rules in
-    let e : Entry = Pressure st up c.from-residual.result in
+    let is : c.from_residual.result ≡ Err why = search rules in
+    let e : Entry = Pressure st up c.from_residual.result in
     let d : Does m e m' = subst (λ (r : Result Line Refusal). Does m (Pressure st up r) m') (sym is) (looks_cold m m' f why c.in_err-number.ensures) in
     record { does = d; tied = keeps_tied m e m' d; ledger = follows_ledger m e m' d }
 
