@@ -18,6 +18,8 @@ ALIAS = re.compile(r" as ([^\s,}]+)")
 # A name ends at a space, a bracket, a dot and the like.
 WORD = re.compile(r"[^\s(){}\[\].,;:=λ`\"]+")
 STRING = re.compile(r'"(?:[^"\\]|\\.)*"')
+COMMENT = re.compile(r"^(.*?)((?:--|//)(?:\s.*)?)$")
+QUOTED = re.compile(r"`[^`]+`")
 
 
 def files(kinds):
@@ -63,22 +65,29 @@ def main():
     if same:
         sys.exit(f"rename_definitions: these would become one name: {same}")
 
-    def turned(text):
+    def words(text):
         return WORD.sub(lambda m: new.get(m.group(0), m.group(0)), text)
+
+    def code(text):
+        # What stands in quotes stays.
+        parts, at = [], 0
+        for quote in STRING.finditer(text):
+            parts += [words(text[at : quote.start()]), quote.group(0)]
+            at = quote.end()
+        return "".join(parts) + words(text[at:])
+
+    def turned(line):
+        # A comment is prose, but for names in backquotes.
+        comment = COMMENT.match(line)
+        if not comment:
+            return code(line)
+        return code(comment.group(1)) + QUOTED.sub(lambda m: words(m.group(0)), comment.group(2))
 
     changed = 0
     for path in files((".antt", ".rt", ".edit")):
         with open(path, encoding="utf-8") as f:
             text = f.read()
-        if path.endswith(".antt"):
-            result = turned(text)
-        else:
-            # What stands in quotes stays.
-            parts, at = [], 0
-            for quote in STRING.finditer(text):
-                parts += [turned(text[at : quote.start()]), quote.group(0)]
-                at = quote.end()
-            result = "".join(parts) + turned(text[at:])
+        result = "\n".join(turned(line) for line in text.split("\n"))
         if result != text:
             changed += 1
             with open(path, "w", encoding="utf-8") as f:

@@ -58,11 +58,11 @@ temperature_of k ut = cond (within (pos 0) (pos 65535) ut) (temperature_at k ut)
 unfoldable pub samples_of : ℤ → ℤ
 samples_of oss = pos (2 ^ unsigned_abs oss)
 
--- S = B6-as-B6 ÷ 2^12
+-- S = B6·B6 ÷ 2^12
 unfoldable pub s_of : ℤ → ℤ
 s_of b6 = floor_div (b6 *ℤ b6) (pos (2 ^ 12))
 
--- X3 = (B2-as-S ÷ 2^11) + (AC2-as-B6 ÷ 2^11)
+-- X3 = (B2·S ÷ 2^11) + (AC2·B6 ÷ 2^11)
 unfoldable pub x3_of : ℤ → ℤ → ℤ → ℤ → ℤ
 x3_of b2 ac2 b6 s = floor_div (b2 *ℤ s) (pos (2 ^ 11)) +ℤ floor_div (ac2 *ℤ b6) (pos (2 ^ 11))
 
@@ -70,7 +70,7 @@ x3_of b2 ac2 b6 s = floor_div (b2 *ℤ s) (pos (2 ^ 11)) +ℤ floor_div (ac2 *�
 unfoldable pub b3_of : ℤ → ℤ → ℤ → ℤ
 b3_of ac1 x3 samples = floor_div ((ac1 *ℤ pos 4 +ℤ x3) *ℤ samples +ℤ pos 2) (pos 4)
 
--- Y3 = ((AC3-as-B6 ÷ 2^13) + (B1-as-S ÷ 2^16) + 2) ÷ 4
+-- Y3 = ((AC3·B6 ÷ 2^13) + (B1·S ÷ 2^16) + 2) ÷ 4
 unfoldable pub y3_of : ℤ → ℤ → ℤ → ℤ → ℤ
 y3_of ac3 b1 b6 s =
     floor_div (floor_div (ac3 *ℤ b6) (pos (2 ^ 13)) +ℤ floor_div (b1 *ℤ s) (pos (2 ^ 16)) +ℤ pos 2) (pos 4)
@@ -87,7 +87,7 @@ b7_of up b3 samples = (up -ℤ b3) *ℤ floor_div (pos 50000) samples
 unfoldable pub p_of : ℤ → ℤ → ℤ
 p_of b7 b4 = cond (int_lt b7 (pos (2 ^ 31))) (floor_div (b7 *ℤ pos 2) b4) (floor_div b7 b4 *ℤ pos 2)
 
--- ((Q-as-Q-3038 ÷ 2^16) + (-7357·p ÷ 2^16) + 3791) ÷ 16
+-- ((Q·Q·3038 ÷ 2^16) + (-7357·p ÷ 2^16) + 3791) ÷ 16
 unfoldable pub last_correction_of : ℤ → ℤ → ℤ
 last_correction_of p q =
     floor_div (floor_div (q *ℤ q *ℤ pos 3038) (pos (2 ^ 16)) +ℤ floor_div (negsuc 7356 *ℤ p) (pos (2 ^ 16)) +ℤ pos 3791) (pos 16)

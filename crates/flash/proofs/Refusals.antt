@@ -1,4 +1,4 @@
--- Facts of a well_formed flash, and of the refusals. Assumes nothing.
+-- Facts of a well-formed flash, and of the refusals. Assumes nothing.
 use Rattle.std.proofs.Common.{◌≡◌, ℕ, ◌+◌, ◌-◌, ◌*◌, ◌^◌, ◌<◌, ◌≤◌, Bool, true, false, cond, ◌&&◌, eqb, ltb, List, [], length, get_or, set, sym, refl, ap, ◌∙◌, mul-le-mul_right, arith, rules}
 use Rattle.std.proofs.ByRecursion.{All-get_or}
 use Rattle.std.proofs.lemmas.Bool.{lt-ltb, ne_eqb, and_from}

@@ -77,7 +77,7 @@ pub record EraseRefused {F : Type 0} (t : FaultGhosts F) (s : FlashState) (b : �
 abbrev pub Erase : {F : Type 0} → FaultGhosts F → FlashState → ℕ → FlashState → Result (Unit {0}) F → Type 0
 Erase t s b s' r = MatchResult r (λ _. EraseDone s b s') (EraseRefused t s b s')
 
--- power_up: on, all units kept; the implementation chooses the charge
+-- power-up: on, all units kept; the implementation chooses the charge
 pub record PoweredUp (before after : FlashState) : Type 0 where
   pub charge : ℕ
   pub fits : charge < 2 ^ 32

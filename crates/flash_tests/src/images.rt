@@ -54,7 +54,7 @@ fn power_byte_two_reads_as_off(rt: HostRuntime) -> Result<(), Fail> {
     assert_eq!(rt; number(image.read(0, 0)), 21);
     assert_eq!(rt; number(image.program(0, 1, 6)), 21);
     assert_eq!(rt; number(image.erase(0)), 21);
-    assert!(rt; image.into_bytes() == three_units(4, 2));
+    assert!(rt; image.into_bytes().as_slice() == three_units(4, 2).as_slice());
     Ok(())
 }
 
@@ -62,7 +62,7 @@ fn power_byte_two_reads_as_off(rt: HostRuntime) -> Result<(), Fail> {
 fn power_up_sets_the_supply(rt: HostRuntime) -> Result<(), Fail> {
     let mut image = open(rt.alloc(), &three_units(4, 0))?.ok_or("image")?;
     image.power_up();
-    assert!(rt; image.into_bytes() == three_units(5, 1));
+    assert!(rt; image.into_bytes().as_slice() == three_units(5, 1).as_slice());
     Ok(())
 }
 
@@ -76,7 +76,7 @@ fn program_writes_its_unit(rt: HostRuntime) -> Result<(), Fail> {
     for i in 0..8u8 {
         after[27 + usize::from(i)] = 0x0a + i;
     }
-    assert!(rt; image.into_bytes() == after);
+    assert!(rt; image.into_bytes().as_slice() == after.as_slice());
     Ok(())
 }
 
@@ -86,7 +86,7 @@ fn cut_program_writes_the_state(rt: HostRuntime) -> Result<(), Fail> {
     assert_eq!(rt; number(image.program(0, 1, 6)), 24);
     let mut after = three_units(0, 0);
     after[26] = 2;
-    assert!(rt; image.into_bytes() == after);
+    assert!(rt; image.into_bytes().as_slice() == after.as_slice());
     Ok(())
 }
 
@@ -99,7 +99,7 @@ fn erase_writes_zeros(rt: HostRuntime) -> Result<(), Fail> {
     for i in 17..44 {
         after[i] = 0;
     }
-    assert!(rt; image.into_bytes() == after);
+    assert!(rt; image.into_bytes().as_slice() == after.as_slice());
     Ok(())
 }
 
@@ -112,7 +112,7 @@ fn cut_erase_reaches_the_lower_half(rt: HostRuntime) -> Result<(), Fail> {
     for i in 17..26 {
         after[i] = 0;
     }
-    assert!(rt; image.into_bytes() == after);
+    assert!(rt; image.into_bytes().as_slice() == after.as_slice());
     Ok(())
 }
 

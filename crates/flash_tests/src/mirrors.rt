@@ -42,7 +42,7 @@ fn mirror_of_blank_and_value(rt: HostRuntime) -> Result<(), Fail> {
 fn mirror_writes_first_side_first(rt: HostRuntime) -> Result<(), Fail> {
     let mut a = small(rt.alloc())?.ok_or("a")?;
     let mut b = small(rt.alloc())?.ok_or("b")?;
-    // One power_up takes one entry of each side: the first side's second entry would complete no write.
+    // One power-up takes one entry of each side: the first side's second entry would complete no write.
     assert_eq!(rt; a.add_entry(entry(1, 2, 0)), Some(1));
     assert_eq!(rt; a.add_entry(entry(0, 2, 0)), Some(2));
     assert_eq!(rt; b.add_entry(entry(0, 0, 0)), Some(1));

@@ -57,7 +57,7 @@ fn takes_entries_in_order(rt: HostRuntime) -> Result<(), Fail> {
     s.power_up();
     assert_eq!(rt; s.read(0, 0).ok().ok_or("read")?, Unit::Programmed(5));
     assert_eq!(rt; number(s.program(0, 0, 6)), 23);
-    // An entry planned after the last power_up is the next one taken.
+    // An entry planned after the last power-up is the next one taken.
     assert_eq!(rt; s.add_entry(entry(0, 9, 0)), Some(3));
     s.power_up();
     assert_eq!(rt; number(s.program(0, 1, 6)), 24);

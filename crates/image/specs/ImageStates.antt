@@ -19,7 +19,7 @@ image_banks bs = be_at bs 5 1
 abbrev pub image_width : List ℕ → ℕ
 image_width bs = be_at bs 6 2
 
--- bytes 8 to 11 are the charge, 12 to 15 the supply, which a power_up sets the charge to
+-- bytes 8 to 11 are the charge, 12 to 15 the supply, which a power-up sets the charge to
 abbrev pub image_charge : List ℕ → ℕ
 image_charge bs = be_at bs 8 4
 
@@ -81,6 +81,6 @@ abbrev pub image_after_erase : List ℕ → ℕ → List ℕ
 image_after_erase bs b =
     by_refusal (erase_refusal (image_flash bs) b) (paid (with_zeros bs (unit_place (image_width bs) b 0) (9 * image_width bs))) (switched_off (with_zeros bs (unit_place (image_width bs) b 0) (9 * (image_width bs / 2)))) bs
 
--- all bytes after a power_up: on, the charge as the supply
+-- all bytes after a power-up: on, the charge as the supply
 abbrev pub image_after_power_up : List ℕ → List ℕ
 image_after_power_up bs = slice_set (with_be bs 8 4 (image_supply bs)) 16 1

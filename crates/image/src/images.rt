@@ -5,7 +5,7 @@
 //     5           the number of banks
 //     6, 7        the number of units in a bank
 //     8 to 11     the charge
-//     12 to 15    the supply: what a power_up sets the charge to
+//     12 to 15    the supply: what a power-up sets the charge to
 //     16          the power: 1 on, others off
 //     17 ..       nine bytes for each unit, bank by bank: its state (0 blank, 1 programmed, others unreadable) and its value
 ghost use Rattle.std.specs.Prelude.{◌≡◌};

@@ -51,7 +51,7 @@ other_which a (inl e) = inr (omega arith)
 other_which a (inr e) = inl (omega arith)
 
 module _ (width : ℕ) (bs : Banks) (r : Reading) (d : Roomy width bs) (read : reads bs ≡ Some r) where
-  -- what is read is well_formed, and its end stands in the bank
+  -- what is read is well-formed, and its end stands in the bank
   pub read_which : (r.active ≡ 0) ⊎ (r.active ≡ 1)
   read_which = (reads_found bs r read).active.which
 

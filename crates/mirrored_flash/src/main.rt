@@ -24,7 +24,7 @@ fn blank_image(heap: Global) -> anyhow::Result<Image> {
     }
 }
 
-// A simulator whose first power_up completes two writes and whose cut leaves its unit unreadable.
+// A simulator whose first power-up completes two writes and whose cut leaves its unit unreadable.
 fn short_simulator(heap: Global) -> anyhow::Result<Simulator> {
     let table = vec![in heap; Unit::Blank; UNITS]?;
     let Ok(mut simulator) = Simulator::new(1, UNITS, table) else {

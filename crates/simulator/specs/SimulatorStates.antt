@@ -9,7 +9,7 @@ use Rattle.simulator.specs.declared.simulators.Simulator.{Simulator}
 use Rattle.simulator.specs.Residues.{program_residue, bank_residue}
 use Rattle.simulator.specs.Tables.{rows, over}
 
--- `position` entries of the plan were taken; `residue` and `pattern` are those of the last power_up
+-- `position` entries of the plan were taken; `residue` and `pattern` are those of the last power-up
 pub record SimulatorState : Type 0 where
   pub banks : ℕ
   pub width : ℕ
@@ -40,11 +40,11 @@ with_plan s es = record { banks = s.banks; width = s.width; table = s.table; on 
 abbrev pub with_entry : SimulatorState → Entry → SimulatorState
 with_entry s e = with_plan s (s.plan ++ (e ∷ []))
 
--- what a power_up sets once every entry is taken
+-- what a power-up sets once every entry is taken
 abbrev pub last_entry : Entry
 last_entry = record { charge = 4294967295; residue = 2; pattern = 0 }
 
--- the entry that the next power_up takes
+-- the entry that the next power-up takes
 abbrev pub next_entry : SimulatorState → Entry
 next_entry s = slice_index_or s.plan s.position last_entry
 

@@ -4,7 +4,7 @@ ghost use Rattle.simulator.specs.Tables.{values_fit};
 
 use flash::units::Unit;
 
-// What a power_up sets: the charge, and what a cut then leaves.
+// What a power-up sets: the charge, and what a cut then leaves.
 #[derive(Clone, Copy, PartialEq, Eq, Debug)]
 pub struct Entry {
     pub charge: u32,

@@ -46,14 +46,14 @@ abbrev pub recover_memory : Option Reading → Memory
 recover_memory None = cold
 recover_memory (Some r) = ready r
 
--- recover on a flash that is large enough: a power_up, whose charge the flash chooses, and then what the units read as
+-- recover on a flash that is large enough: a power-up, whose charge the flash chooses, and then what the units read as
 pub record Recovered (m : Moment) (r : Result ℕ Refusal) (m' : Moment) : Type 0 where
   pub power_up : PoweredUp m.flash m'.flash
   pub answer : r ≡ recover_answer (reads m.flash.units)
   pub memory : m'.memory ≡ recover_memory (reads m.flash.units)
   pub next : m'.next ≡ m.next
 
--- on a smaller flash it is refused before the power_up; the store is then cold
+-- on a smaller flash it is refused before the power-up; the store is then cold
 abbrev pub Recovers : Moment → Result ℕ Refusal → Moment → Type 0
 Recovers m r m' = If (is_roomy m.flash) (Recovered m r m') (Plain m r (Err SmallFlash) cold m.next m')
 
@@ -74,7 +74,7 @@ pub record Formatted (m : Moment) (r : Result ℕ Refusal) (m' : Moment) : Type 
   pub memory : m'.memory ≡ written_memory formatted made
   pub next : m'.next ≡ m.next
 
--- on a smaller flash it is refused before the power_up and changes nothing
+-- on a smaller flash it is refused before the power-up and changes nothing
 abbrev pub Formats : Moment → Result ℕ Refusal → Moment → Type 0
 Formats m r m' = If (is_roomy m.flash) (Formatted m r m') (Refused m r SmallFlash m')
 

@@ -32,7 +32,7 @@ abbrev pub refused_at : {A : Type 0} → Result A Stop → Result A Refusal
 refused_at (Ok x) = Ok x
 refused_at (Err e) = Err (WriteStopped e.1)
 
--- Format on a flash: a power_up, whose charge the flash chooses, then its writes; where the flash is large enough, exactly the
+-- Format on a flash: a power-up, whose charge the flash chooses, then its writes; where the flash is large enough, exactly the
 -- charge decides.
 pub record FormatRun (s : FlashState) (r : Result (Unit {0}) Refusal) (s' : FlashState) : Type 0 where
   pub powered : FlashState

@@ -24,7 +24,7 @@ fn fault(why: Why, bank: usize, unit: Option<usize>) -> SimulatorFault
 }
 
 impl Simulator {
-    // The entry that the next power_up takes.
+    // The entry that the next power-up takes.
     fn next_entry(&self) -> Entry
         ensures { result ≡ next_entry (state_of self.now) }
     {
