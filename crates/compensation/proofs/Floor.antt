@@ -1,7 +1,7 @@
 -- Division rounded down: Rust's Euclidean division gives it at a positive divisor, and it is the quotient that its law says.
 use Rattle.std.proofs.Common.{◌≡◌, ℕ, suc, ◌+◌, ◌/◌, ◌<◌, ◌≤◌, ℤ, pos, negsuc, ◌-ℤ◌, neg_ℤ, nat_abs, ◌≤ℤ◌, ◌<ℤ◌, refl, ap, ◌∙◌, suc-mul, div-le_self, arith}
 use lib.Signed.{shr_z}
-use borrow.Author.Differences.{ints, down}
+use borrow.Author.Differences.{ints}
 use Rattle.std.proofs.lemmas.Nat.{div-add-mod', mod_below, le-div}
 use Rattle.std.specs.Int.{int_div_euclid}
 use Rattle.compensation.specs.Ranges.{Size}

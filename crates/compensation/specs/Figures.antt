@@ -1,5 +1,5 @@
 -- The worked example of the chip's datasheet, and the ends of the temperature's range.
-use Rattle.std.specs.Prelude.{◌≡◌, ℤ, pos, negsuc, Ok, Err}
+use Rattle.std.specs.Prelude.{◌≡◌, pos, negsuc, Ok, Err}
 use Rattle.compensation.specs.declared.coefficients.Coefficients.{Coefficients}
 use Rattle.compensation.specs.declared.readings.ReadingRefusal.TheVariants.{Temperature}
 use Rattle.compensation.specs.Formulas.{t_from_b5, temperature_of, pressure_of}

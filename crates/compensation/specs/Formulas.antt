@@ -1,5 +1,5 @@
 -- The compensation formulas over the whole numbers, by the names of the chip's datasheet. ÷ is `floor_div`.
-use Rattle.std.specs.Prelude.{ℕ, ◌+◌, ◌^◌, Bool, cond, ◌&&◌, ℤ, pos, negsuc, ◌+ℤ◌, ◌-ℤ◌, ◌*ℤ◌, Ok, Err, Result, int_le, int_lt, unsigned_abs}
+use Rattle.std.specs.Prelude.{ℕ, ◌+◌, ◌^◌, cond, ◌&&◌, ℤ, pos, negsuc, ◌+ℤ◌, ◌-ℤ◌, ◌*ℤ◌, Ok, Err, Result, int_le, int_lt, unsigned_abs}
 use Rattle.compensation.specs.Division.{floor_div}
 use Rattle.compensation.specs.Ranges.{within}
 use Rattle.compensation.specs.declared.coefficients.Coefficients.{Coefficients}

@@ -1,4 +1,6 @@
 // The integer compensation of a BMP180 barometer: raw readings and calibration coefficients give degrees and pascals.
+#![tactic(auto)]
+
 pub mod calibration;
 pub mod coefficients;
 pub mod datasheet;

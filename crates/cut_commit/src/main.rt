@@ -1,4 +1,6 @@
 // A commit of two coefficients, cut at each of its writes in turn: what the bank that is written holds, unit by unit, and what is read.
+#![tactic(auto)]
+
 use anyhow::anyhow;
 use flash::faults::FlashFault;
 use flash::interface::Flash;

@@ -1,6 +1,8 @@
 // A run on a store over a simulator: a calibration is committed and read with, the commit of the next one is cut by a power failure, and the
 // store is recovered. Every call and what came of it, in words. That recover and format power the flash up exactly once, also where it is
 // on, is something that no contract over any flash can see; here each power-up brings its own charge, and the cuts show it.
+#![tactic(auto)]
+
 use anyhow::anyhow;
 use compensation::datasheet::{UP, UT};
 use compensation::text::{degrees, hectopascals};

@@ -1,2 +1,4 @@
 // The worked figures, and the datasheet's coefficients as pairs.
+#![tactic(auto)]
+
 pub mod example;

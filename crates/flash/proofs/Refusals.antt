@@ -1,12 +1,11 @@
 -- Facts of a well-formed flash, and of the refusals. Assumes nothing.
-use Rattle.std.proofs.Common.{◌≡◌, ℕ, ◌+◌, ◌-◌, ◌*◌, ◌^◌, ◌<◌, ◌≤◌, Bool, true, false, cond, ◌&&◌, eqb, ltb, List, [], length, get_or, set, sym, refl, ap, ◌∙◌, mul-le-mul_right, arith, rules}
+use Rattle.std.proofs.Common.{◌≡◌, ℕ, ◌*◌, ◌<◌, ◌≤◌, true, cond, eqb, [], length, mul-le-mul_right, arith}
 use Rattle.std.proofs.ByRecursion.{All-get_or}
-use Rattle.std.proofs.lemmas.Bool.{lt-ltb, ne_eqb, and_from}
+use Rattle.std.proofs.lemmas.Bool.{lt-ltb, ne_eqb}
 use Rattle.std.proofs.lemmas.Bool.Decides.{nat_tests}
 use Rattle.std.proofs.lemmas.Nat.{mul-le}
-use Rattle.flash.specs.declared.units.Unit.{Unit as Cell}
-use Rattle.flash.specs.declared.units.Unit.TheVariants.{Blank, Programmed, Unreadable}
-use Rattle.flash.specs.FlashState.{FlashState, flash_state, unit_at, bank_of, is_blank, WellFormed}
+use Rattle.flash.specs.declared.units.Unit.TheVariants.{Blank}
+use Rattle.flash.specs.FlashState.{FlashState, unit_at, bank_of, WellFormed}
 use Rattle.flash.specs.Calls.{read_refusal, program_refusal, erase_refusal, by_refusal}
 
 pub bank_length : (c : FlashState) (b : ℕ) → WellFormed c → b < length c.units → length (bank_of c b) ≡ c.width

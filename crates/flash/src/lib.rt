@@ -1,4 +1,6 @@
 // What a flash is: its units, its faults and its calls, with the meaning of each call.
+#![tactic(auto)]
+
 pub mod causes;
 pub mod faults;
 pub mod interface;

@@ -1,3 +1,5 @@
+#![tactic(auto)]
+
 // Tests of the flashes, alone and stacked.
 #[cfg(test)]
 mod images;

@@ -2,15 +2,14 @@
 use Rattle.std.specs.Prelude.{◌≡◌, ℕ, ◌+◌, ◌-◌, ◌*◌, ◌/◌, ◌^◌, ◌<◌, ◌≤◌, true, List, [], length, set, replicate, slice_index_or, slice_set}
 use Rattle.std.proofs.Common.{sym, ◌∙◌, arith, mod-eq_of_lt, zero-add, mul-le-mul_right, lit<, lit≤}
 use Rattle.std.proofs.Math.Path.{ap, subst}
-use Rattle.std.specs.List.{AllZip, AllByRecursion as All}
+use Rattle.std.specs.List.{AllZip}
 use Rattle.std.proofs.lemmas.List.FromFn.{length-map-range_with_len, get_or-map-range_with_len}
 use Rattle.std.proofs.lemmas.List.{get_or-set_same}
-use Rattle.std.proofs.lemmas.Bool.Decides.{nat_tests}
 use Rattle.flash.specs.declared.units.Unit.{Unit as Cell}
 use Rattle.flash.specs.declared.units.Unit.TheVariants.{Blank, Programmed, Unreadable}
-use Rattle.flash.specs.FlashState.{flash_state, WellFormed, ValueFits, unit_at, bank_of, with_unit, with_bank, after_write, after_cut}
+use Rattle.flash.specs.FlashState.{flash_state, unit_at, bank_of, with_unit, with_bank, after_write, after_cut}
 use Rattle.flash.specs.Calls.{EraseResidue}
-use Rattle.image.specs.Formed.{Opened, all_counted, be_below, unit_fits}
+use Rattle.image.specs.Formed.{Opened, be_below}
 use Rattle.image.specs.ImageBytes.{with_be, with_zeros}
 use Rattle.image.specs.ImageStates.{image_banks, image_width, image_charge, image_supply, image_on, image_units, open_refusal, unit_place, unit_from, bank_from, banks_from, image_flash, paid, switched_off, unit_written, image_after_power_up}
 use Rattle.image.proofs.ImageNumbers.{SameBut, wider, both, set_same_but, put_same_but, zeros_same_but, be_kept_below, put_read}

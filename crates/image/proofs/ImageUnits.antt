@@ -1,14 +1,12 @@
 -- The units that bytes spell, and what a write leaves of them. Assumes nothing.
-use Rattle.std.specs.Prelude.{◌≡◌, ℕ, zero, suc, ◌+◌, ◌-◌, ◌*◌, ◌/◌, ◌^◌, ◌<◌, ◌≤◌, Bool, true, false, cond, ◌⊎◌, List, map, length, set, replicate, ◌==◌, ◌≢◌, slice_index, slice_index_or, slice_set, refl}
+use Rattle.std.specs.Prelude.{◌≡◌, ℕ, zero, suc, ◌+◌, ◌*◌, ◌/◌, ◌^◌, ◌<◌, ◌≤◌, List, map, length, set, replicate, ◌≢◌, slice_index, slice_index_or, slice_set, refl}
 use Rattle.std.proofs.Common.{sym, ap, ◌∙◌, inl, inr, ⊎_elim, arith, mul-le-mul_right, mod-eq_of_lt, zero-add}
-use Rattle.std.specs.List.{range_with_len, AllZip, AllByRecursion as All}
+use Rattle.std.specs.List.{range_with_len, AllZip}
 use Rattle.std.proofs.lemmas.List.FromFn.{length-map-range_with_len, get_or-map-range_with_len, fill_by_all}
 use Rattle.std.proofs.lemmas.List.{length-set, length-replicate, get_or-replicate, get_or-set_same, get_or-set_other}
 use Rattle.std.proofs.lemmas.Bool.{cases_eq, cases_lt}
 use Rattle.flash.specs.declared.units.Unit.TheVariants.{Blank, Programmed, Unreadable}
-use Rattle.flash.specs.FlashState.{ValueFits}
 use Rattle.flash.specs.Calls.{EraseResidue}
-use Rattle.image.specs.Formed.{be_below}
 use Rattle.image.specs.ImageBytes.{be_at, with_zeros}
 use Rattle.image.specs.ImageStates.{unit_place, unit_from, bank_from, banks_from, unit_written}
 use Rattle.image.proofs.ImageNumbers.{SameBut, both, set_same_but, put_same_but, zeros_same_but, be_kept_below, be_kept_above, put_read, zeros_read}

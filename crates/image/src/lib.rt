@@ -1,4 +1,6 @@
 // A flash kept in a byte buffer.
+#![tactic(auto)]
+
 mod image_bytes;
 pub mod image_checks;
 pub mod image_faults;

@@ -9,7 +9,6 @@ use Rattle.std.specs.List.{AllZip}
 use Rattle.layout.specs.declared.meanings.Pair.{Pair}
 use Rattle.layout.specs.declared.meanings.Meaning.{Meaning}
 use Rattle.layout.specs.declared.meanings.Meaning.TheVariants.{Noise, Record, Header}
-use Rattle.layout.specs.Catalogue.{admits}
 use Rattle.layout.specs.PairLists.{rising}
 use Rattle.layout.specs.Codec.{record_value, header_value}
 use Rattle.layout.proofs.Decoding.{header_read}

@@ -1,4 +1,6 @@
 // How the units of the store are read, and what a commit writes.
+#![tactic(auto)]
+
 pub mod changes;
 mod choices;
 mod logs;

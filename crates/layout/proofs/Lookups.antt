@@ -1,9 +1,9 @@
 -- What a look-up finds after a pair, or a whole change, was laid over a list.
-use Rattle.std.proofs.Common.{◌≡◌, ℕ, ◌<◌, ◌≤◌, Bool, true, false, cond, ◌&&◌, eqb, ltb, ◌⊎◌, List, [], ◌∷◌, ℤ, Some, None, Option, sym, refl, ap, ◌∙◌, ⊎_elim, arith}
+use Rattle.std.proofs.Common.{◌≡◌, ℕ, ◌≤◌, true, false, cond, eqb, ltb, List, [], ◌∷◌, ℤ, Some, None, Option, sym, refl, ap, ◌∙◌, ⊎_elim, arith}
 use Rattle.std.proofs.lemmas.Bool.Decides.{nat_tests}
-use Rattle.std.proofs.lemmas.Bool.{cases_Bool, cond-true, cond-false, and_parts, ltb-true, eqb-true, ne_eqb, eqb-false}
+use Rattle.std.proofs.lemmas.Bool.{cases_Bool, cond-true, cond-false, and_parts, ltb-true, eqb-true, ne_eqb}
 use Rattle.layout.specs.declared.meanings.Pair.{Pair}
-use Rattle.layout.specs.PairLists.{rising_above, rising, all_admitted, well_formed, with_pair, value_of, merged, or_else, LookupLaws}
+use Rattle.layout.specs.PairLists.{rising_above, rising, all_admitted, with_pair, value_of, merged, or_else, LookupLaws}
 
 apart : (j k q : ℕ) (w v : ℤ) (r : Option ℤ) → (j ≡ k → ⊥) →
     cond (eqb j q) (Some w) (cond (eqb k q) (Some v) r) ≡ cond (eqb k q) (Some v) (cond (eqb j q) (Some w) r)

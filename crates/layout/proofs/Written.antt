@@ -1,5 +1,5 @@
 -- A value that says something is the one that is written for it.
-use Rattle.std.proofs.Common.{◌≡◌, ℕ, ◌/◌, ◌%◌, ◌^◌, ◌<◌, Bool, true, cond, eqb, leb, sym, ap, ◌∙◌, subst, arith, w32, to_z, of_z}
+use Rattle.std.proofs.Common.{◌≡◌, ℕ, ◌/◌, ◌%◌, ◌^◌, ◌<◌, Bool, true, cond, eqb, leb, sym, ap, ◌∙◌, subst, arith, w32, to_z}
 use Rattle.std.proofs.lemmas.Int.{of_z-to_z}
 use Rattle.std.proofs.lemmas.Bool.{eqb-true, cond_both}
 use Rattle.layout.specs.Contents.{content, sealed, crc_of}

@@ -1,4 +1,6 @@
 // The units of the coefficient store: the catalogue, the codec and lists of pairs.
+#![tactic(auto)]
+
 pub mod catalogue;
 pub mod codec;
 pub mod crc;

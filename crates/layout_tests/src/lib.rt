@@ -1,3 +1,5 @@
+#![tactic(auto)]
+
 // Tests of the units of the store.
 #[cfg(test)]
 mod tests {

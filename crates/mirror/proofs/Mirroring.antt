@@ -1,12 +1,11 @@
 -- Two flashes side by side act as one. Assumes nothing.
-use Rattle.std.proofs.Common.{◌≡◌, ℕ, zero, suc, ◌+◌, ◌-◌, ◌*◌, ◌^◌, ◌<◌, ◌≤◌, min, Bool, true, false, cond, ◌&&◌, eqb, ltb, ◌⊎◌, List, [], ◌∷◌, length, get_or, set, replicate, Some, None, Ok, Err, Option, Result, sym, refl, ap, ◌∙◌, subst, inl, inr, mul-le-mul, arith, lit<, rules}
-use Rattle.std.specs.List.{AllZip, AllByRecursion as All}
-use Rattle.std.proofs.lemmas.List.{set-get_or, length-set}
-use Rattle.std.proofs.lemmas.Bool.Decides.{nat_tests}
+use Rattle.std.proofs.Common.{◌≡◌, ℕ, zero, suc, ◌-◌, ◌<◌, min, Bool, true, false, cond, ◌&&◌, eqb, List, [], ◌∷◌, length, get_or, set, replicate, Some, None, Ok, Err, Option, Result, sym, refl, ap, ◌∙◌, subst, inl, inr, arith, lit<}
+use Rattle.std.specs.List.{AllZip}
+use Rattle.std.proofs.lemmas.List.{set-get_or}
 use Rattle.flash.specs.declared.faults.FlashFault.{Ghosts as FaultGhosts}
 use Rattle.flash.specs.declared.units.Unit.{Unit as Cell}
 use Rattle.flash.specs.declared.units.Unit.TheVariants.{Blank, Programmed, Unreadable}
-use Rattle.flash.specs.FlashState.{FlashState, flash_state, WellFormed, ValueFits, bank_of, unit_at, with_bank, with_unit, after_write, after_cut}
+use Rattle.flash.specs.FlashState.{FlashState, flash_state, WellFormed, bank_of, unit_at, with_bank, with_unit, after_write, after_cut}
 use Rattle.flash.specs.Calls.{read_refusal, program_refusal, erase_refusal, ProgramResidue, EraseResidue, Program, ProgramDone, ProgramRefused, Erase, EraseDone, EraseRefused}
 use Rattle.flash.specs.declared.causes.Cause.{Cause}
 use Rattle.flash.specs.declared.causes.Why.{Why}
@@ -14,10 +13,10 @@ use Rattle.flash.specs.declared.causes.Why.TheVariants.{Off, Missing, NotBlank, 
 use Rattle.flash.specs.Causes.{why_number, cause_number}
 use Rattle.mirror.specs.declared.mirror_faults.MirrorFault.{MirrorFault}
 use Rattle.mirror.specs.declared.mirror_faults.MirrorFault.TheVariants.{Own, First, Second}
-use Rattle.mirror.specs.MirrorSides.{mirror_fault, OwnRefusal, ProgramSides, EraseSides, SideCuts}
+use Rattle.mirror.specs.MirrorSides.{mirror_fault, ProgramSides, EraseSides, SideCuts}
 use Rattle.mirror.specs.Formed.{beside_length}
 use Rattle.mirror.specs.Mirrored.{mixed, beside, mixed_units, mirrored}
-use Rattle.flash.proofs.Refusals.{bank_length, program_refusal_open, read_refusal_open, erase_refusal_open, read_refusal_parts, charge_left, charge_out, number_cut, number_done}
+use Rattle.flash.proofs.Refusals.{bank_length, program_refusal_open, erase_refusal_open, read_refusal_parts, charge_left, charge_out, number_cut, number_done}
 
 -- lists side by side
 pub beside_get_or : {X Y Z : Type 0} (f : X → Y → Z) (xs : List X) (ys : List Y) (i : ℕ) (d : X) (e : Y) (z : Z) → i < length xs → i < length ys → get_or (beside f xs ys) i z ≡ f (get_or xs i d) (get_or ys i e)

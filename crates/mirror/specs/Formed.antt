@@ -1,5 +1,5 @@
 -- Why a mirror keeps the law of a flash: lemmas that its impl cites. Nothing here has to be believed.
-use Rattle.std.specs.Prelude.{◌≡◌, ℕ, ◌+◌, ◌*◌, ◌<◌, ◌≤◌, min, List, [], ◌∷◌, length}
+use Rattle.std.specs.Prelude.{◌≡◌, ℕ, ◌≤◌, min, List, [], ◌∷◌, length}
 use Rattle.std.proofs.Common.{mul-le-mul, arith}
 use Rattle.std.specs.List.{AllByRecursion as All}
 use Rattle.flash.specs.declared.units.Unit.{Unit as Cell}

@@ -1,5 +1,5 @@
 -- What two flashes side by side hold as one.
-use Rattle.std.specs.Prelude.{ℕ, min, ◌&&◌, List, [], ◌∷◌}
+use Rattle.std.specs.Prelude.{min, ◌&&◌, List, [], ◌∷◌}
 use Rattle.flash.specs.declared.units.Unit.{Unit as Cell}
 use Rattle.flash.specs.declared.units.Unit.TheVariants.{Blank, Programmed, Unreadable}
 use Rattle.flash.specs.FlashState.{FlashState, flash_state}

@@ -1,4 +1,6 @@
 // Two flashes of any kinds that hold the same.
+#![tactic(auto)]
+
 pub mod mirror_faults;
 pub mod mirrors;
 

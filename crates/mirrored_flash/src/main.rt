@@ -1,4 +1,6 @@
 // A mirror of a byte image and a simulator: a program is cut in the middle, and the mirror still holds a value or a blank unit.
+#![tactic(auto)]
+
 use anyhow::anyhow;
 use flash::faults::FlashFault;
 use flash::interface::Flash;

@@ -1,6 +1,8 @@
 // Works out a table of readings: each line of standard input has the coefficients AC1 to PCOR, UT and UP, parted by commas.
 // A line comes back with what it gives: the temperature's refusal or B5 and T, then the pressure's refusal or P in Pa.
 // Lines that begin with # are remarks and come back as they are.
+#![tactic(auto)]
+
 use compensation::calibration::Calibration;
 use compensation::coefficients::Coefficients;
 use std::io::{BufRead, BufReader};

@@ -1,11 +1,10 @@
 -- The steps that a run holds were given by temperatures of its past.
-use Rattle.std.proofs.Common.{◌≡◌, ℕ, zero, suc, Bool, true, false, cond, ◌⊎◌, List, [], ◌∷◌, ◌++◌, get_or, set, ℤ, Some, None, Ok, Err, Option, Result, sym, refl, ap, ◌∙◌, subst, inl, inr, arith}
+use Rattle.std.proofs.Common.{◌≡◌, ℕ, zero, suc, Bool, true, false, cond, List, [], ◌∷◌, ◌++◌, get_or, set, ℤ, Some, None, Ok, Err, Option, sym, refl, ap, subst, inl, inr, arith}
 use Rattle.std.specs.Option.{option_map}
 use Rattle.store.specs.declared.entries.Entry.{Entry}
 use Rattle.store.specs.declared.entries.Entry.TheVariants.{Recover as recovered, Begin as begun, Put as did_put, Commit as committed, Abandon as abandoned, Get as got, Temperature as took_temperature, Pressure as took_pressure}
 use Rattle.store.specs.declared.steps.StepNumbers.{StepNumbers}
-use Rattle.store.specs.Law.{Given}
-use Rattle.runs.specs.Held.{Held, held, has}
+use Rattle.runs.specs.Held.{Held, has}
 use Rattle.runs.specs.declared.requests.Request.{Request}
 use Rattle.runs.specs.declared.requests.Request.TheVariants.{Recover, Begin, Put, Commit, Abandon, Get, Temperature, Pressure}
 use Rattle.runs.specs.Runs.{Call, recover, begin, put, commit, abandon, get, temperature, pressure, call_in, with_step, call_for, step_place, held_with, held_after, past_with, StepGiven, PressureGiven}

@@ -1,6 +1,6 @@
 -- What the simulator's cuts leave. Assumes nothing.
-use Rattle.std.specs.Prelude.{◌≡◌, ℕ, ◌+◌, ◌*◌, ◌/◌, ◌%◌, ◌^◌, ◌<◌, ◌≤◌, Bool, true, false, cond, ◌⊎◌, List, [], ◌∷◌, ◌++◌, length, get_or, take, drop, replicate, ◌==◌, slice_index_or, slice_set, refl}
-use Rattle.std.proofs.Common.{sym, ap, ◌∙◌, inl, inr, arith, add-zero, add_assoc, zero-add}
+use Rattle.std.specs.Prelude.{◌≡◌, ℕ, ◌+◌, ◌<◌, ◌≤◌, Bool, true, false, cond, List, [], ◌∷◌, ◌++◌, length, get_or, take, drop, replicate, ◌==◌, slice_index_or, slice_set, refl}
+use Rattle.std.proofs.Common.{sym, ap, ◌∙◌, inl, inr, arith, add-zero}
 use Rattle.std.specs.List.{AllZip}
 use Rattle.std.proofs.lemmas.List.{length-replicate, replicate_more, length-take-le, length-drop, length-take, get_or-take, get_or-drop, take_more, take_all}
 use Rattle.flash.specs.declared.units.Unit.{Unit as Cell}
@@ -8,7 +8,7 @@ use Rattle.flash.specs.declared.units.Unit.TheVariants.{Blank, Programmed, Unrea
 use Rattle.flash.specs.Calls.{ProgramResidue, EraseResidue}
 use Rattle.simulator.specs.Tables.{over}
 use Rattle.simulator.specs.Residues.{program_residue, pattern_bits, unit_residue, residue_from, bank_residue}
-use Rattle.simulator.proofs.Rows.{over_step, over_past, over_none}
+use Rattle.simulator.proofs.Rows.{over_step, over_past}
 
 program_residue_by : (p q : Bool) (v : ℕ) → ProgramResidue v (cond p Blank (cond q (Programmed v) Unreadable))
 program_residue_by true q v = inl refl

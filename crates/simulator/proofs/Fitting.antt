@@ -2,13 +2,13 @@
 use Rattle.std.specs.Prelude.{◌≡◌, ℕ, zero, suc, ◌+◌, ◌^◌, ◌<◌, Bool, true, false, cond, List, [], ◌∷◌, ◌++◌, length, take, drop, replicate, ◌==◌, slice_set, refl}
 use Rattle.std.specs.List.{AllByRecursion as All}
 use Rattle.std.proofs.ByRecursion.{All-append, All-set, All-take, All-drop}
-use Rattle.std.proofs.lemmas.Bool.{ltb-true, lt-ltb, and_parts, and_from}
+use Rattle.std.proofs.lemmas.Bool.{lt-ltb, and_from}
 use Rattle.flash.specs.declared.units.Unit.{Unit as Cell}
 use Rattle.flash.specs.declared.units.Unit.TheVariants.{Blank, Programmed, Unreadable}
 use Rattle.flash.specs.FlashState.{ValueFits}
 use Rattle.simulator.specs.Formed.{values_from}
-use Rattle.simulator.specs.Tables.{rows, over, value_fits, values_fit}
-use Rattle.simulator.specs.Residues.{program_residue, unit_residue, residue_from, bank_residue, pattern_bits}
+use Rattle.simulator.specs.Tables.{over, value_fits, values_fit}
+use Rattle.simulator.specs.Residues.{program_residue, residue_from, bank_residue, pattern_bits}
 
 value_to : (x : Cell) → ValueFits x → value_fits x ≡ true
 value_to Blank h = refl

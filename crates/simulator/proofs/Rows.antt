@@ -1,9 +1,7 @@
 -- A flat table as rows. Assumes nothing.
-use Rattle.std.specs.Prelude.{◌≡◌, ℕ, zero, suc, ◌+◌, ◌-◌, ◌*◌, ◌<◌, ◌≤◌, List, [], ◌∷◌, ◌++◌, length, take, drop, set, replicate, slice_index_or, slice_set, refl}
-use Rattle.std.proofs.Common.{sym, ap, ◌∙◌, subst, append_assoc, arith, add_assoc, add-zero, zero-add, suc-add, zero-mul, suc-mul, add_comm, rules}
-use Rattle.std.specs.List.{AllByRecursion as All}
-use Rattle.std.proofs.lemmas.List.{places, take-append-drop, length-take-le, length-drop, length-append, length-take, take_at, drop_at, drop_more, set_at, get_or-take, get_or-drop, take-set-le, drop-set-lt, drop-set-add, append-nil, drop-drop, drop_all}
-use Rattle.simulator.specs.Formed.{rows_length}
+use Rattle.std.specs.Prelude.{◌≡◌, ℕ, zero, suc, ◌+◌, ◌*◌, ◌<◌, ◌≤◌, List, [], ◌∷◌, ◌++◌, length, take, drop, set, slice_index_or, slice_set, refl}
+use Rattle.std.proofs.Common.{sym, ap, ◌∙◌, subst, append_assoc, arith, add_assoc, add-zero, zero-add, suc-add, zero-mul, suc-mul, rules}
+use Rattle.std.proofs.lemmas.List.{places, take-append-drop, length-take-le, length-drop, length-append, length-take, take_at, drop_at, drop_more, set_at, take-set-le, drop-set-lt, drop-set-add, append-nil, drop-drop, drop_all}
 use Rattle.simulator.specs.Tables.{rows, over}
 
 module _ {X : Type 0} where

@@ -1,16 +1,16 @@
 -- A simulator as a flash. Assumes nothing.
-use Rattle.std.specs.Prelude.{◌≡◌, ℕ, ◌+◌, ◌-◌, ◌*◌, ◌^◌, ◌<◌, ◌≤◌, Bool, true, false, List, [], length, get_or, take, drop, replicate, vec_items, slice_index_or, slice_set, refl}
-use Rattle.std.proofs.Common.{sym, ap, ◌∙◌, subst, arith, suc-mul, mul-le-mul_right}
+use Rattle.std.specs.Prelude.{◌≡◌, ℕ, ◌+◌, ◌*◌, ◌<◌, ◌≤◌, Bool, List, length, get_or, take, drop, slice_index_or, slice_set}
+use Rattle.std.proofs.Common.{sym, ap, ◌∙◌, subst, arith, mul-le-mul_right}
 use Rattle.std.specs.List.{AllZip}
-use Rattle.std.proofs.lemmas.List.{get_or-take, get_or-drop, length-replicate, length-take, length-drop, with_items_is}
+use Rattle.std.proofs.lemmas.List.{get_or-take, get_or-drop, length-take, length-drop, with_items_is}
 use Rattle.flash.specs.declared.units.Unit.{Unit as Cell}
-use Rattle.flash.specs.declared.units.Unit.TheVariants.{Blank, Programmed, Unreadable}
-use Rattle.flash.specs.FlashState.{FlashState, flash_state, WellFormed, unit_at, bank_of, with_unit, with_bank}
+use Rattle.flash.specs.declared.units.Unit.TheVariants.{Blank, Programmed}
+use Rattle.flash.specs.FlashState.{FlashState, flash_state, unit_at, bank_of, with_unit, with_bank}
 use Rattle.flash.specs.Calls.{EraseResidue, read_refusal, program_refusal, erase_refusal}
 use Rattle.flash.proofs.Refusals.{by_done, by_cut, by_same}
 use Rattle.simulator.specs.Formed.{full_of, items, rows_length, table_state}
 use Rattle.simulator.specs.SimulatorStates.{SimulatorState, flash_of, paid, turned_off, with_cell, with_bank_blank, with_bank_cut, after_program, after_erase}
-use Rattle.simulator.specs.Tables.{rows, over, values_fit}
+use Rattle.simulator.specs.Tables.{rows, over}
 use Rattle.simulator.specs.Residues.{program_residue, bank_residue}
 use Rattle.std.specs.Vec.{with_items}
 use Rattle.simulator.specs.declared.simulators.Simulator.{Simulator}

@@ -1,4 +1,6 @@
 // A flash in memory whose power-ups follow a plan.
+#![tactic(auto)]
+
 mod residues;
 pub mod shapes;
 pub mod simulator_faults;

@@ -1,9 +1,9 @@
 -- An open change stays well formed and short under a put.
-use Rattle.std.proofs.Common.{◌≡◌, ℕ, suc, ◌<◌, ◌≤◌, Bool, true, false, cond, not, ◌&&◌, eqb, ltb, leb, ◌⊎◌, List, [], ◌∷◌, length, ℤ, is_some, Some, None, Ok, Err, Option, Result, sym, refl, ap, ◌∙◌, inl, inr, arith}
-use Rattle.std.proofs.lemmas.Bool.{both_ways, and_parts, and_from, and_cases, not-false, ltb-true, ltb-false, leb-false, lt-ltb, eqb-true, eqb-false, ne_eqb, cond-false, cond_both}
+use Rattle.std.proofs.Common.{◌≡◌, ℕ, suc, ◌<◌, ◌≤◌, Bool, true, false, cond, not, eqb, ltb, leb, ◌⊎◌, List, [], ◌∷◌, length, is_some, Some, Ok, Err, Result, sym, refl, ap, ◌∙◌, inl, inr, arith}
+use Rattle.std.proofs.lemmas.Bool.{both_ways, and_parts, and_from, and_cases, not-false, ltb-true, ltb-false, leb-false, ne_eqb, cond-false, cond_both}
 use Rattle.layout.specs.declared.meanings.Pair.{Pair}
 use Rattle.layout.specs.Catalogue.{is_key, admits}
-use Rattle.layout.specs.PairLists.{rising_above, all_admitted, well_formed, value_of, with_pair}
+use Rattle.layout.specs.PairLists.{rising_above, all_admitted, value_of, with_pair}
 use Rattle.layout.proofs.WellFormed.{key_bounds, rising_with, admitted_with}
 use Rattle.journal.specs.Commit.{Change}
 use Rattle.store.specs.declared.refusals.Refusal.{Refusal}

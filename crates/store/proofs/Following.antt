@@ -1,5 +1,5 @@
 -- One call more after a past: what carries over, and what has to be shown for the call.
-use Rattle.std.proofs.Common.{◌≡◌, ℕ, suc, ◌+◌, ◌≤◌, Bool, true, false, cond, eqb, ◌⊎◌, List, [], ◌∷◌, ◌++◌, length, take, ℤ, Some, None, Ok, Err, Option, Result, sym, refl, ap, ◌∙◌, subst, inl, inr, arith}
+use Rattle.std.proofs.Common.{◌≡◌, ℕ, ◌+◌, Bool, true, false, cond, eqb, List, [], ◌∷◌, ◌++◌, length, take, ℤ, None, Ok, Err, Option, Result, sym, refl, ap, ◌∙◌, subst, inl, inr, arith}
 use Rattle.std.proofs.lemmas.List.{append-nil, length-append, take-append-le}
 use Rattle.std.proofs.lemmas.Bool.{both_ways}
 use Rattle.flash.specs.FlashState.{FlashState}
@@ -13,7 +13,7 @@ use Rattle.store.specs.Refusals.{refusal_number}
 use Rattle.store.specs.Readings.{temperature_answer}
 use Rattle.store.specs.Moments.{Memory, Moment}
 use Rattle.store.specs.Calls.{If, Plain}
-use Rattle.store.specs.Ledger.{OpenChange, Ledger, ledger, laid, number_by, one_more, change_in, stands, drops, doubts, fed, ledger_of, begins, cut_since_recover}
+use Rattle.store.specs.Ledger.{OpenChange, Ledger, ledger, laid, number_by, one_more, change_in, drops, doubts, fed, ledger_of, begins, cut_since_recover}
 use Rattle.store.specs.Law.{Right, StepStands, Given, AgreesIn, Agrees, is_cold, AnswersNumber, Grows, CallFollowsLedger}
 
 abbrev pub moment_at : FlashState → Memory → ℕ → Moment

@@ -1,10 +1,9 @@
 -- Every call follows the ledger.
-use Rattle.std.proofs.Common.{ℕ, List}
 use Rattle.store.specs.declared.entries.Entry.{Entry}
 use Rattle.store.specs.declared.entries.Entry.TheVariants.{Recover, Begin, Put, Commit, Abandon, Get, Temperature, Pressure}
 use Rattle.store.specs.Moments.{Moment}
 use Rattle.store.specs.Calls.{Does}
-use Rattle.store.specs.Law.{Agrees, CallFollowsLedger, FollowsLedger}
+use Rattle.store.specs.Law.{FollowsLedger}
 use Rattle.store.proofs.Plainly.{begin_follows, put_follows, abandon_follows, get_follows, temperature_follows, pressure_follows}
 use Rattle.store.proofs.Writing.{recover_follows, commit_follows}
 

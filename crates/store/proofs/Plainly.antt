@@ -1,7 +1,7 @@
 -- The calls that leave the flash as it was follow the ledger.
-use Rattle.std.proofs.Common.{◌≡◌, ℕ, suc, ◌+◌, ◌≤◌, Bool, true, false, cond, eqb, List, [], ◌∷◌, ◌++◌, length, take, ℤ, pos, Some, None, Ok, Err, Option, Result, sym, refl, ap, ◌∙◌, subst, arith}
+use Rattle.std.proofs.Common.{◌≡◌, ℕ, ◌+◌, Bool, true, false, cond, eqb, List, [], ◌∷◌, take, ℤ, pos, Some, None, Ok, Err, Option, Result, sym, refl, ap, ◌∙◌, subst, arith}
 use Rattle.std.proofs.lemmas.List.{take_all}
-use Rattle.std.proofs.lemmas.Bool.{both_ways, cond-true, cond-false, eqb-true}
+use Rattle.std.proofs.lemmas.Bool.{cond-true, cond-false, eqb-true}
 use Rattle.flash.specs.FlashState.{FlashState}
 use Rattle.layout.specs.declared.meanings.Pair.{Pair}
 use Rattle.layout.specs.Catalogue.{pair_of}
@@ -24,7 +24,7 @@ use Rattle.store.specs.Readings.{refusal_of, unless_absent, step_of, line_of, te
 use Rattle.store.specs.Moments.{Memory, cold, ready, changing, Moment}
 use Rattle.store.specs.Calls.{limit, Begins, Puts, Abandons, looked, Looks, get_answer}
 use Rattle.store.specs.Ledger.{OpenChange, Ledger, laid, pairs_by, number_by, with_put, ledger_of, begins}
-use Rattle.store.specs.Law.{unless_doubt, begin_answer, with_ticket, Given, line_with, line_answer, PressureRight, Settled, InDoubt, AgreesIn, StepStands, Agrees, CallFollowsLedger}
+use Rattle.store.specs.Law.{unless_doubt, begin_answer, with_ticket, line_with, line_answer, AgreesIn, StepStands, Agrees, CallFollowsLedger}
 use Rattle.store.proofs.Following.{moment_at, if_both, no_step, on_agrees, follows, plainly}
 use Rattle.store.proofs.Changing.{put_cases}
 

@@ -1,5 +1,5 @@
 -- What the flash answered, told by what its fault gives.
-use Rattle.std.proofs.Common.{◌≡◌, ℕ, ◌+◌, ◌⊎◌, List, [], ◌∷◌, Ok, Err, Option, Result, refl, inl, inr}
+use Rattle.std.proofs.Common.{ℕ, ◌+◌, List, [], ◌∷◌, Ok, Err, Option, Result, refl, inl, inr}
 use Rattle.flash.specs.FlashState.{FlashState}
 use Rattle.flash.specs.Calls.{PoweredUp, Refused}
 use Rattle.flash.specs.declared.faults.FlashFault.{Ghosts as FaultGhosts}
@@ -7,7 +7,7 @@ use Rattle.layout.specs.declared.meanings.Pair.{Pair}
 use Rattle.journal.specs.Reading.{Reading}
 use Rattle.journal.specs.Writes.{Write, completed, StoppedAt, Performed, write_refusal, write_bank, write_unit}
 use Rattle.journal.specs.Commit.{commit_writes, formatting}
-use Rattle.journal.specs.Outcomes.{Usable, Committable, CutShort, CutCommit, WholeOrAbsentAfter, EmptyAfter}
+use Rattle.journal.specs.Outcomes.{CutShort, WholeOrAbsentAfter, EmptyAfter}
 use Rattle.store.specs.Stops.{Stop, stops, told, refused_at, FormatRun, CommitRun}
 
 module _ {F : Type 0} (t : FaultGhosts F) where

@@ -1,5 +1,5 @@
 -- Every call keeps what the store knows and what its units say the same.
-use Rattle.std.proofs.Common.{◌≡◌, ℕ, ◌+◌, ◌≤◌, Bool, true, false, eqb, List, [], length, ℤ, Some, None, Ok, Err, Option, Result, sym, refl, ap, ◌∙◌, subst, arith, MatchResult}
+use Rattle.std.proofs.Common.{◌≡◌, ℕ, ◌+◌, ◌≤◌, eqb, List, [], length, Some, None, Ok, Err, Option, Result, sym, refl, ap, ◌∙◌, subst, MatchResult}
 use Rattle.flash.specs.FlashState.{FlashState}
 use Rattle.flash.specs.Calls.{PoweredUp}
 use Rattle.layout.specs.declared.meanings.Pair.{Pair}
@@ -10,11 +10,11 @@ use Rattle.journal.specs.Outcomes.{Usable, Finished, CutShort, CutCommit}
 use Rattle.store.specs.declared.entries.Entry.{Entry}
 use Rattle.store.specs.declared.entries.Entry.TheVariants.{Recover, Begin, Put, Commit, Abandon, Get, Temperature, Pressure}
 use Rattle.store.specs.declared.refusals.Refusal.{Refusal}
-use Rattle.store.specs.Changes.{put_answer, put_change}
+use Rattle.store.specs.Changes.{put_change}
 use Rattle.store.specs.Stops.{Stop, stops, refused_at, is_roomy}
 use Rattle.store.specs.Moments.{Memory, cold, ready, changing, Moment, Known, TiedIn, Tied}
 use Rattle.store.specs.Calls.{limit, Plain, Recovers, recover_memory, written_memory, Formats, Begins, Puts, Commits, CommitsOpen, Abandons, Does}
-use Rattle.store.proofs.Following.{moment_at, if_both}
+use Rattle.store.proofs.Following.{if_both}
 use Rattle.store.proofs.Changing.{put_cases}
 use Rattle.store.proofs.Plainly.{none_change}
 use Rattle.store.proofs.Writing.{finished_known, powered_usable, powered_reads, roomy_parts, known_commits}

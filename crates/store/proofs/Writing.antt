@@ -1,24 +1,24 @@
 -- Recover, commit and format follow the ledger.
-use Rattle.std.proofs.Common.{◌≡◌, ℕ, suc, ◌+◌, ◌-◌, ◌<◌, ◌≤◌, Bool, true, false, cond, ◌&&◌, eqb, leb, ◌⊎◌, List, [], ◌∷◌, ◌++◌, length, is_some, Some, None, Ok, Err, Option, Result, sym, refl, ap, ◌∙◌, subst, inl, inr, ⊎_elim, arith, MatchResult}
+use Rattle.std.proofs.Common.{◌≡◌, ℕ, ◌+◌, ◌≤◌, Bool, true, false, cond, eqb, leb, ◌⊎◌, List, [], ◌∷◌, ◌++◌, length, is_some, Some, None, Ok, Err, Option, Result, sym, refl, ap, ◌∙◌, subst, inl, inr, ⊎_elim, arith, MatchResult}
 use Rattle.std.proofs.lemmas.List.{length-append}
-use Rattle.std.proofs.lemmas.Bool.{both_ways, cond-true, cond-false, eq-eqb, ne_eqb, eqb-true, eqb-false, le-leb, leb-true, and_from, and_parts}
-use Rattle.flash.specs.FlashState.{FlashState, flash_state}
+use Rattle.std.proofs.lemmas.Bool.{both_ways, cond-true, cond-false, eq-eqb, ne_eqb, le-leb, leb-true, and_from, and_parts}
+use Rattle.flash.specs.FlashState.{FlashState}
 use Rattle.flash.specs.Calls.{PoweredUp}
 use Rattle.layout.specs.declared.meanings.Pair.{Pair}
 use Rattle.layout.specs.PairLists.{merged}
 use Rattle.journal.specs.Reading.{Reading, reads}
-use Rattle.journal.specs.Commit.{fits, commit_writes, writes_needed, committed, formatting, formatted, Change, Holds}
+use Rattle.journal.specs.Commit.{fits, writes_needed, committed, formatting, formatted, Change, Holds}
 use Rattle.journal.specs.Outcomes.{Usable, Finished, CutShort, CutCommit, Committable}
 use Rattle.journal.proofs.Theorem.{needed}
 use Rattle.store.specs.declared.entries.Entry.{Entry}
 use Rattle.store.specs.declared.entries.Entry.TheVariants.{Recover, Commit}
 use Rattle.store.specs.declared.refusals.Refusal.{Refusal}
-use Rattle.store.specs.declared.refusals.Refusal.TheVariants.{Cold, SmallFlash, WrongTicket, LastNumber, WriteStopped}
-use Rattle.store.specs.Stops.{is_roomy, Stop, stops, refused_at, FormatRun, CommitRun}
+use Rattle.store.specs.declared.refusals.Refusal.TheVariants.{Cold, WrongTicket, LastNumber, WriteStopped}
+use Rattle.store.specs.Stops.{is_roomy, Stop, stops, refused_at}
 use Rattle.store.specs.Moments.{Memory, cold, ready, changing, Moment, Known}
-use Rattle.store.specs.Calls.{limit, If, recover_answer, recover_memory, Recovered, Recovers, written, written_memory, Formatted, Formats, Committed, CommitsOpen, Commits}
-use Rattle.store.specs.Ledger.{OpenChange, Ledger, ledger, laid, pairs_by, number_by, one_more, change_in, resolves, stands, doubts, ledger_of, begins, drops, cut_since_recover}
-use Rattle.store.specs.Law.{RecoverRight, place_cut, CutExactlyBelow, CommitOpen, CommitRight, Settled, InDoubt, AgreesIn, Agrees, CallFollowsLedger, BeginsPast}
+use Rattle.store.specs.Calls.{limit, If, recover_answer, recover_memory, Recovers, written, written_memory, Formats, CommitsOpen, Commits}
+use Rattle.store.specs.Ledger.{OpenChange, Ledger, ledger, laid, pairs_by, number_by, one_more, change_in, resolves, stands, ledger_of, cut_since_recover}
+use Rattle.store.specs.Law.{CutExactlyBelow, CommitOpen, CommitRight, Settled, InDoubt, AgreesIn, Agrees, CallFollowsLedger, BeginsPast}
 use Rattle.store.proofs.Following.{moment_at, if_both, if_true, if_false, laid_last, no_step, follows, plainly}
 
 pub roomy_usable : (s : FlashState) → 2 ≤ length s.units → 64 ≤ s.width → is_roomy s ≡ true

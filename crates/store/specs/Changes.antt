@@ -1,5 +1,5 @@
 -- What a put makes of an open change.
-use Rattle.std.specs.Prelude.{ℕ, Bool, true, false, cond, not, ◌&&◌, List, length, ℤ, is_some, Ok, Err, Result, nat_le}
+use Rattle.std.specs.Prelude.{ℕ, Bool, cond, not, ◌&&◌, List, length, is_some, Ok, Err, Result, nat_le}
 use Rattle.layout.specs.declared.meanings.Pair.{Pair}
 use Rattle.layout.specs.Catalogue.{is_key, admits}
 use Rattle.layout.specs.PairLists.{value_of, with_pair}

@@ -5,7 +5,6 @@ use Rattle.layout.specs.Catalogue.{pair_of}
 use Rattle.layout.specs.PairLists.{with_pair, merged}
 use Rattle.store.specs.declared.entries.Entry.{Entry}
 use Rattle.store.specs.declared.entries.Entry.TheVariants.{Recover, Begin, Put, Commit, Abandon, Get, Temperature, Pressure}
-use Rattle.store.specs.declared.refusals.Refusal.{Refusal}
 use Rattle.store.specs.Refusals.{refusal_number}
 
 -- an open change: the number of its ticket, and its pairs

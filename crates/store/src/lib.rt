@@ -1,4 +1,6 @@
 // The store of coefficients over any flash: nine calls, and the law that ties them to what was called before.
+#![tactic(auto)]
+
 mod changes;
 pub mod entries;
 mod flashes;

@@ -1,4 +1,6 @@
 // Follows the measurement of the chip's datasheet from the raw values to the printed line, and shows one that is refused.
+#![tactic(auto)]
+
 use compensation::calibration::Calibration;
 use compensation::coefficients::Coefficients;
 use compensation::datasheet::{UP, UT, example_calibration};

@@ -1,4 +1,4 @@
-use Rattle.std.proofs.Common.{◌≡◌, rules}
+use Rattle.std.proofs.Common.{rules}
 use Rattle.compensation.specs.Admitted.{admitted_set, signed_word, unsigned_word, oversampling, correction}
 use Rattle.compensation.proofs.Ranges.{passed}
 use Rattle.compensation.proofs.calibration.are_admitted.Goals as goal

@@ -1,6 +1,5 @@
-use Rattle.std.proofs.Common.{◌≡◌, ◌+ℤ◌, Ok, arith, w16, w64, SFits, rules}
+use Rattle.std.proofs.Common.{◌+ℤ◌, arith, w16, w64, SFits, rules}
 use Rattle.std.proofs.lemmas.Int.{ints, to_z-of_z}
-use Rattle.compensation.specs.Formulas.{t_from_b5}
 use Rattle.compensation.proofs.temperature.worked.Goals as goal
 
 pub returns : goal.returns

@@ -1,6 +1,6 @@
 use Rattle.std.proofs.Common.{ap, ◌∙◌}
 use Rattle.flash.specs.Seen.{seen}
-use Rattle.journal.specs.Reading.{active_bank, header_number, reads, reads_bank}
+use Rattle.journal.specs.Reading.{active_bank, reads, reads_bank}
 use Rattle.journal.specs.Log.{visible}
 use Rattle.journal.proofs.Stretch.{run_stands_directly_before}
 use Rattle.journal.proofs.reading.read_units.Goals as goal

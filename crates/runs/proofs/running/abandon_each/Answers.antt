@@ -1,11 +1,10 @@
-use Rattle.std.proofs.Common.{◌≡◌, ℕ, ◌<◌, List, [], ◌∷◌, ◌++◌, map, length, Some, vec_items, sym, refl, ap, ◌∙◌, subst, arith}
+use Rattle.std.proofs.Common.{◌≡◌, ℕ, ◌<◌, List, [], ◌∷◌, ◌++◌, map, length, Some, vec_items, sym, ap, ◌∙◌, subst, arith}
 use mathlib.Core.List.{map-append}
 use Rattle.std.proofs.lemmas.List.{append-nil, append_assoc, nil_from_length}
 use Rattle.store.specs.declared.entries.Entry.TheVariants.{Abandon as abandoned}
 use Rattle.store.specs.declared.tickets.Ticket.{Ticket}
 use Rattle.store.specs.Moments.{moment}
 use Rattle.store.specs.Calls.{Does}
-use Rattle.runs.specs.declared.requests.Request.{Request}
 use Rattle.runs.specs.declared.requests.Request.TheVariants.{Abandon}
 use Rattle.runs.specs.Held.{Held, held, ticket_numbers, step_numbers}
 use Rattle.runs.specs.Hands.{held_by}

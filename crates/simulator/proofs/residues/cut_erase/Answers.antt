@@ -1,4 +1,4 @@
-use Rattle.std.proofs.Common.{◌≡◌, ◌+◌, get_or, take, drop, set, sym, refl, ap, ◌∙◌, arith}
+use Rattle.std.proofs.Common.{◌≡◌, ◌+◌, get_or, take, drop, set, ap, ◌∙◌, arith}
 use Rattle.simulator.specs.Tables.{over}
 use Rattle.simulator.specs.Residues.{unit_residue, residue_from}
 use Rattle.flash.specs.declared.units.Unit.TheVariants.{Blank}

@@ -1,4 +1,4 @@
-use Rattle.std.proofs.Common.{Ok, Err, sym, w16, w32, SFits, rules}
+use Rattle.std.proofs.Common.{Ok, Err, w16, w32, SFits, rules}
 use Rattle.std.proofs.lemmas.Int.{to_z-of_z}
 use Rattle.layout.specs.Held.{pairs_of}
 use Rattle.store.proofs.Looking.{line_old, line_is}

@@ -1,4 +1,4 @@
-use Rattle.std.proofs.Common.{◌≡◌, ℤ, pos, ◌+ℤ◌, sym, ap, ◌∙◌, arith, lit<, w64, SFits, to_z}
+use Rattle.std.proofs.Common.{◌≡◌, pos, ◌+ℤ◌, sym, ap, ◌∙◌, arith, lit<, w64, SFits, to_z}
 use Rattle.std.proofs.lemmas.Int.{ints, to_z-of_z}
 use Rattle.compensation.proofs.Bounds.{bounded}
 use Rattle.compensation.proofs.Sizes.{fits_size}

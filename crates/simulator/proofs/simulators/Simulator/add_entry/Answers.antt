@@ -1,4 +1,4 @@
-use Rattle.std.proofs.Common.{◌≡◌, ◌<◌, length, take, ap, arith}
+use Rattle.std.proofs.Common.{◌<◌, length, ap, arith}
 use Rattle.std.proofs.lemmas.List.{take_more_set, length-take-le}
 use Rattle.simulator.specs.SimulatorStates.{with_plan, state_of}
 use Rattle.simulator.proofs.simulators.Simulator.add_entry.Goals as goal

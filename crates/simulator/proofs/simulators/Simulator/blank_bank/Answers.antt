@@ -1,4 +1,4 @@
-use Rattle.std.proofs.Common.{◌≡◌, ◌*◌, replicate, ap, ◌∙◌, arith}
+use Rattle.std.proofs.Common.{◌*◌, replicate, ap, ◌∙◌, arith}
 use Rattle.std.proofs.lemmas.List.{length-replicate}
 use Rattle.flash.specs.declared.units.Unit.TheVariants.{Blank}
 use Rattle.simulator.specs.Formed.{items}

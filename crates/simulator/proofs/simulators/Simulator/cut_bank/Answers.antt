@@ -1,4 +1,4 @@
-use Rattle.std.proofs.Common.{◌≡◌, ◌*◌, false, take, drop, ap, ◌∙◌, arith}
+use Rattle.std.proofs.Common.{◌*◌, false, take, drop, ap, ◌∙◌, arith}
 use Rattle.simulator.specs.Formed.{full_of, items}
 use Rattle.simulator.specs.SimulatorStates.{state_of, with_table}
 use Rattle.simulator.specs.Residues.{bank_residue}

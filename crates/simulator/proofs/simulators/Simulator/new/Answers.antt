@@ -1,7 +1,5 @@
-use Rattle.std.proofs.Common.{◌≡◌, ◌*◌, ◌<◌, ◌≤◌, length, replicate, vec_items, vec_len, sym, refl, ap, ◌∙◌, arith, lit<, lit≤}
-use Rattle.std.specs.Vec.{with_items}
+use Rattle.std.proofs.Common.{◌≡◌, ◌*◌, length, replicate, vec_len, sym, refl, ap, ◌∙◌, arith, lit<, lit≤}
 use Rattle.std.proofs.lemmas.List.{with_items_is, length-replicate}
-use Rattle.flash.specs.declared.units.Unit.{Unit as Cell}
 use Rattle.flash.specs.declared.units.Unit.TheVariants.{Blank}
 use Rattle.simulator.specs.Shapes.{make_refusal}
 use Rattle.simulator.specs.SimulatorStates.{new_simulator, with_table}

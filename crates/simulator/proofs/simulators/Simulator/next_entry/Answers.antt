@@ -1,4 +1,4 @@
-use Rattle.std.proofs.Common.{◌≡◌, ◌<◌, ◌≤◌, length, get_or, take, sym, ap, ◌∙◌, arith, rules}
+use Rattle.std.proofs.Common.{◌<◌, ◌≤◌, length, take, sym, ◌∙◌, arith}
 use Rattle.std.proofs.lemmas.List.{get_or_past, get_or-take, get_or_default, length-take-le}
 use Rattle.simulator.specs.SimulatorStates.{last_entry}
 use Rattle.simulator.proofs.simulators.Simulator.next_entry.Goals as goal

@@ -1,4 +1,4 @@
-use Rattle.std.proofs.Common.{◌≡◌, Ok, Err, Result, sym, ap, subst, rules}
+use Rattle.std.proofs.Common.{◌≡◌, Ok, Err, Result, sym, subst, rules}
 use Rattle.store.specs.declared.entries.Entry.{Entry}
 use Rattle.store.specs.declared.entries.Entry.TheVariants.{Abandon}
 use Rattle.store.specs.declared.refusals.Refusal.{Refusal}

@@ -1,4 +1,4 @@
-use Rattle.std.proofs.Common.{◌≡◌, ℕ, List, Ok, Err, Result, sym, refl, ap, subst, w16, w32, SFits, rules}
+use Rattle.std.proofs.Common.{◌≡◌, ℕ, List, Err, Result, sym, refl, subst, w16, w32, SFits, rules}
 use Rattle.std.proofs.lemmas.Int.{to_z-of_z}
 use Rattle.layout.specs.declared.meanings.Pair.{Pair}
 use Rattle.layout.specs.Held.{pairs_of}

@@ -4,7 +4,7 @@ use Rattle.flash.specs.declared.units.Unit.TheVariants.{Blank}
 use Rattle.flash.specs.Causes.{cause_number, cause_place}
 use Rattle.flash.proofs.Keeping.{erase_absent, erase_cut, erase_done}
 use Rattle.simulator.specs.Formed.{full_of, items, rows_length}
-use Rattle.simulator.specs.SimulatorStates.{SimulatorState, state_of, flash_of, paid, turned_off, with_bank_blank, with_bank_cut, after_erase}
+use Rattle.simulator.specs.SimulatorStates.{state_of, flash_of, paid, turned_off, with_bank_blank, with_bank_cut}
 use Rattle.simulator.specs.Residues.{bank_residue}
 use Rattle.simulator.proofs.Simulating.{table_bank, table_residue, row_residue_length, in_bank, simulated, erase_state_same, erase_state_cut, erase_state_done}
 use Rattle.simulator.proofs.simulators.calls.SimulatorFlash.erase.Goals as goal

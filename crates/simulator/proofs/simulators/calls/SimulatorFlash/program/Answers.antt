@@ -1,5 +1,4 @@
 use Rattle.std.proofs.Common.{◌≡◌, ◌+◌, ◌-◌, ◌*◌, ◌^◌, ◌<◌, false, set, sym, ap, ◌∙◌, subst, arith}
-use Rattle.flash.specs.declared.units.Unit.{Unit as Cell}
 use Rattle.flash.specs.declared.units.Unit.TheVariants.{Blank, Programmed}
 use Rattle.flash.specs.FlashState.{unit_at, ValueFits}
 use Rattle.flash.specs.Causes.{cause_number, cause_place}
