@@ -1,6 +1,6 @@
 -- A flash at one moment.
 use Rattle.std.specs.Prelude.{◌≡◌, ℕ, ◌-◌, ◌*◌, ◌^◌, ◌<◌, ◌≤◌, Bool, true, false, List, [], length, slice_index_or, slice_set}
-use Rattle.std.specs.List.{AllByRecursion as All}
+use Rattle.std.specs.List.{AllByRecursion}
 use Rattle.flash.specs.declared.units.Unit.{Unit as Cell}
 use Rattle.flash.specs.declared.units.Unit.TheVariants.{Blank, Programmed, Unreadable}
 
@@ -22,10 +22,10 @@ ValueFits Unreadable = Unit {0}
 
 -- what holds of every flash at every moment
 pub record WellFormed (s : FlashState) : Type 0 where
-  pub shape : All (λ bank. length bank ≡ s.width) s.units
+  pub shape : AllByRecursion (λ bank. length bank ≡ s.width) s.units
   pub size : length s.units * s.width ≤ 4096
   pub fits : s.charge < 2 ^ 32
-  pub values : All (All ValueFits) s.units
+  pub values : AllByRecursion (AllByRecursion ValueFits) s.units
 
 abbrev pub bank_of : FlashState → ℕ → List Cell
 bank_of s b = slice_index_or s.units b []

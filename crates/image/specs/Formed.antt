@@ -2,7 +2,7 @@
 use Rattle.std.specs.Prelude.{◌≡◌, ℕ, zero, suc, ◌+◌, ◌*◌, ◌^◌, ◌<◌, ◌≤◌, Bool, true, false, cond, List, map, length, ◌==◌, slice_index}
 use Rattle.std.proofs.Common.{arith, pow-suc, lit<}
 use Rattle.std.proofs.Math.Nat.{pow-zero}
-use Rattle.std.specs.List.{range_with_len, AllByRecursion as All}
+use Rattle.std.specs.List.{range_with_len, AllByRecursion}
 use Rattle.std.proofs.lemmas.List.FromFn.{length-map-range_with_len}
 use Rattle.std.proofs.lemmas.Bool.Decides.{nat_tests}
 use Rattle.flash.specs.declared.units.Unit.TheVariants.{Blank, Programmed, Unreadable}
@@ -16,7 +16,7 @@ unfolding be_at
 be_below bs i zero = rw pow-zero (lit< tt)
 be_below bs i (suc n) = let h = be_below bs i n in rw pow-suc (omega arith)
 
-pub all_counted : {X : Type 0} (P : X → Type 0) (f : ℕ → X) (a n : ℕ) → ((k : ℕ) → P (f k)) → All P (map {A = ℕ} {B = X} f (range_with_len a n))
+pub all_counted : {X : Type 0} (P : X → Type 0) (f : ℕ → X) (a n : ℕ) → ((k : ℕ) → P (f k)) → AllByRecursion P (map {A = ℕ} {B = X} f (range_with_len a n))
 all_counted P f a zero h = tt
 all_counted P f a (suc n) h = (h a, all_counted P f (a + 1) n h)
 
@@ -48,5 +48,5 @@ image_formed bs o =
       shape = all_counted (λ bank. length bank ≡ image_width bs) (λ b. bank_from bs (image_width bs) b) 0 (image_banks bs) (λ b. length-map-range_with_len (λ u. unit_from bs (unit_place (image_width bs) b u)) 0 (image_width bs));
       size = rw length-map-range_with_len o.small;
       fits = be_below bs 8 4;
-      values = all_counted (All ValueFits) (λ b. bank_from bs (image_width bs) b) 0 (image_banks bs) (λ b. all_counted ValueFits (λ u. unit_from bs (unit_place (image_width bs) b u)) 0 (image_width bs) (λ u. unit_fits bs (unit_place (image_width bs) b u)));
+      values = all_counted (AllByRecursion ValueFits) (λ b. bank_from bs (image_width bs) b) 0 (image_banks bs) (λ b. all_counted ValueFits (λ u. unit_from bs (unit_place (image_width bs) b u)) 0 (image_width bs) (λ u. unit_fits bs (unit_place (image_width bs) b u)));
     }

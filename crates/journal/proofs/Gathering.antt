@@ -1,7 +1,7 @@
 -- Units read one by one as records with rising keys.
 use Rattle.std.proofs.Common.{◌≡◌, ℕ, zero, suc, ◌+◌, ◌-◌, ◌<◌, ◌≤◌, Bool, true, false, cond, ◌&&◌, ltb, leb, List, [], ◌∷◌, ◌++◌, length, get_or, take, drop, Some, None, Option, sym, refl, ap, ◌∙◌, subst, ⊎_elim, append_assoc, append-nil, add-one, arith}
 use Rattle.std.specs.Option.{option_map}
-use Rattle.std.specs.List.{AllByRecursion as All}
+use Rattle.std.specs.List.{AllByRecursion}
 use Rattle.std.proofs.ByRecursion.{All-push, All-weaker}
 use Rattle.std.proofs.lemmas.Bool.Decides.{nat_tests}
 use Rattle.std.proofs.lemmas.Bool.{cases_Bool, cond-true, cond-false, lt-ltb, le-ltb, le-leb, lt-leb, and_left, and_from}
@@ -76,7 +76,7 @@ not_record b (Header c n) rest ne = refl
 -- the first i of the c units gave the pairs ps, of which the last key is `last`
 pub record Gathered (ms : List Meaning) (c : ℕ) (ps : List Pair) (last i : ℕ) : Type 0 where
   whole : records_above 0 c ms ≡ option_map (λ rest. ps ++ rest) (records_above last (c - i) (drop i ms))
-  under : All (λ (p : Pair). p.key < last + 1) ps
+  under : AllByRecursion (λ (p : Pair). p.key < last + 1) ps
 
 mapped_same : (o : Option (List Pair)) → o ≡ option_map (λ rest. rest) o
 mapped_same None = refl
@@ -87,7 +87,7 @@ mapped_twice : (ps : List Pair) (p : Pair) (o : Option (List Pair)) →
 mapped_twice ps p None = refl
 mapped_twice ps p (Some qs) = ap Some (sym (append_assoc ps (p ∷ []) qs))
 
-with_last : (p : Pair) (ps : List Pair) → All (λ (q : Pair). q.key < p.key) ps → with_pair p ps ≡ ps ++ p ∷ []
+with_last : (p : Pair) (ps : List Pair) → AllByRecursion (λ (q : Pair). q.key < p.key) ps → with_pair p ps ≡ ps ++ p ∷ []
 with_last p [] a = refl
 with_last p (q ∷ qs) a = cond-true (ltb q.key p.key) _ _ (lt-ltb q.key p.key a.0) ∙ ap (λ xs. q ∷ xs) (with_last p qs a.1)
 

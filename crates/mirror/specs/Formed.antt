@@ -1,7 +1,7 @@
 -- Why a mirror keeps the law of a flash: lemmas that its impl cites. Nothing here has to be believed.
 use Rattle.std.specs.Prelude.{◌≡◌, ℕ, ◌≤◌, min, List, [], ◌∷◌, length}
 use Rattle.std.proofs.Common.{mul-le-mul, arith}
-use Rattle.std.specs.List.{AllByRecursion as All}
+use Rattle.std.specs.List.{AllByRecursion}
 use Rattle.flash.specs.declared.units.Unit.{Unit as Cell}
 use Rattle.flash.specs.declared.units.Unit.TheVariants.{Blank, Programmed, Unreadable}
 use Rattle.flash.specs.FlashState.{FlashState, WellFormed, ValueFits}
@@ -13,7 +13,7 @@ beside_length f (x ∷ xs) [] = omega arith
 beside_length f (x ∷ xs) (y ∷ ys) = omega (arith, beside_length f xs ys)
 
 -- the shape, and the values
-shape : (m n : ℕ) (xs ys : List (List Cell)) → All (λ bank. length bank ≡ m) xs → All (λ bank. length bank ≡ n) ys → All (λ bank. length bank ≡ min m n) (mixed_units xs ys)
+shape : (m n : ℕ) (xs ys : List (List Cell)) → AllByRecursion (λ bank. length bank ≡ m) xs → AllByRecursion (λ bank. length bank ≡ n) ys → AllByRecursion (λ bank. length bank ≡ min m n) (mixed_units xs ys)
 shape m n [] ys h k = tt
 shape m n (x ∷ xs) [] h k = tt
 shape m n (x ∷ xs) (y ∷ ys) h k = (let e = beside_length mixed x y in let p = h.0 in let q = k.0 in omega arith, shape m n xs ys h.1 k.1)
@@ -27,12 +27,12 @@ mixed_fits Unreadable Blank h k = tt
 mixed_fits Unreadable (Programmed v) h k = k
 mixed_fits Unreadable Unreadable h k = tt
 
-bank_fits : (xs ys : List Cell) → All ValueFits xs → All ValueFits ys → All ValueFits (beside mixed xs ys)
+bank_fits : (xs ys : List Cell) → AllByRecursion ValueFits xs → AllByRecursion ValueFits ys → AllByRecursion ValueFits (beside mixed xs ys)
 bank_fits [] ys h k = tt
 bank_fits (x ∷ xs) [] h k = tt
 bank_fits (x ∷ xs) (y ∷ ys) h k = (mixed_fits x y h.0 k.0, bank_fits xs ys h.1 k.1)
 
-values : (xs ys : List (List Cell)) → All (All ValueFits) xs → All (All ValueFits) ys → All (All ValueFits) (mixed_units xs ys)
+values : (xs ys : List (List Cell)) → AllByRecursion (AllByRecursion ValueFits) xs → AllByRecursion (AllByRecursion ValueFits) ys → AllByRecursion (AllByRecursion ValueFits) (mixed_units xs ys)
 values [] ys h k = tt
 values (x ∷ xs) [] h k = tt
 values (x ∷ xs) (y ∷ ys) h k = (bank_fits x y h.0 k.0, values xs ys h.1 k.1)

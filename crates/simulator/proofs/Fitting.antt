@@ -1,6 +1,6 @@
 -- Programmed values of 64 bits in a table. Assumes nothing.
 use Rattle.std.specs.Prelude.{◌≡◌, ℕ, zero, suc, ◌+◌, ◌^◌, ◌<◌, Bool, true, false, cond, List, [], ◌∷◌, ◌++◌, length, take, drop, replicate, ◌==◌, slice_set, refl}
-use Rattle.std.specs.List.{AllByRecursion as All}
+use Rattle.std.specs.List.{AllByRecursion}
 use Rattle.std.proofs.ByRecursion.{All-append, All-set, All-take, All-drop}
 use Rattle.std.proofs.lemmas.Bool.{lt-ltb, and_from}
 use Rattle.flash.specs.declared.units.Unit.{Unit as Cell}
@@ -15,11 +15,11 @@ value_to Blank h = refl
 value_to (Programmed v) h = lt-ltb v (2 ^ 64) h
 value_to Unreadable h = refl
 
-pub values_to : (xs : List Cell) → All ValueFits xs → values_fit xs ≡ true
+pub values_to : (xs : List Cell) → AllByRecursion ValueFits xs → values_fit xs ≡ true
 values_to [] h = refl
 values_to (x ∷ xs) h = and_from (value_fits x) (values_fit xs) (value_to x h.0) (values_to xs h.1)
 
-all_blank : (n : ℕ) → All ValueFits (replicate n Blank)
+all_blank : (n : ℕ) → AllByRecursion ValueFits (replicate n Blank)
 all_blank zero = tt
 all_blank (suc n) = (tt, all_blank n)
 
@@ -29,7 +29,7 @@ blank_fits n = values_to (replicate n Blank) (all_blank n)
 pub set_fits : (xs : List Cell) (i : ℕ) (x : Cell) → ValueFits x → values_fit xs ≡ true → values_fit (slice_set xs i x) ≡ true
 set_fits xs i x h k = values_to (slice_set xs i x) (All-set ValueFits xs i x h (values_from xs k))
 
-all_over : (xs : List Cell) (u : ℕ) (ys : List Cell) → All ValueFits xs → All ValueFits ys → All ValueFits (over xs u ys)
+all_over : (xs : List Cell) (u : ℕ) (ys : List Cell) → AllByRecursion ValueFits xs → AllByRecursion ValueFits ys → AllByRecursion ValueFits (over xs u ys)
 all_over xs u ys h k =
     All-append ValueFits (take u xs) (ys ++ drop (u + length ys) xs) (All-take ValueFits u xs h)
     (All-append ValueFits ys (drop (u + length ys) xs) k (All-drop ValueFits (u + length ys) xs h))
@@ -54,7 +54,7 @@ erase_by true q x h = h
 erase_by false true x h = tt
 erase_by false false x h = tt
 
-residue_all : (p u : ℕ) (xs : List Cell) → All ValueFits xs → All ValueFits (residue_from p u xs)
+residue_all : (p u : ℕ) (xs : List Cell) → AllByRecursion ValueFits xs → AllByRecursion ValueFits (residue_from p u xs)
 residue_all p u [] h = tt
 residue_all p u (x ∷ xs) h = (erase_by (pattern_bits p u == 0) (pattern_bits p u == 1) x h.0, residue_all p (u + 1) xs h.1)
 

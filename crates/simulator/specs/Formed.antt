@@ -1,7 +1,7 @@
 -- Why a simulator keeps the law of a flash: lemmas that its impl cites. Nothing here has to be believed.
 use Rattle.std.specs.Prelude.{◌≡◌, ℕ, zero, suc, ◌*◌, ◌^◌, ◌<◌, ◌≤◌, Bool, true, List, [], ◌∷◌, length, drop, vec_items, refl}
 use Rattle.std.proofs.Common.{ap, arith, suc-mul}
-use Rattle.std.specs.List.{AllByRecursion as All}
+use Rattle.std.specs.List.{AllByRecursion}
 use Rattle.std.proofs.ByRecursion.{All-take, All-drop}
 use Rattle.std.proofs.lemmas.List.{length-take-le, length-drop}
 use Rattle.std.proofs.lemmas.Bool.{ltb-true, and_parts}
@@ -16,7 +16,7 @@ module _ {X : Type 0} where
   rows_length zero w xs = refl
   rows_length (suc n) w xs = ap suc (rows_length n w (drop w xs))
 
-  pub rows_shape : (n w : ℕ) (xs : List X) → n * w ≤ length xs → All (λ row. length row ≡ w) (rows n w xs)
+  pub rows_shape : (n w : ℕ) (xs : List X) → n * w ≤ length xs → AllByRecursion (λ row. length row ≡ w) (rows n w xs)
   rows_shape zero w xs h = tt
   rows_shape (suc n) w xs h =
       let e = suc-mul n w in
@@ -28,11 +28,11 @@ value_from Blank h = tt
 value_from (Programmed v) h = ltb-true v (2 ^ 64) h
 value_from Unreadable h = tt
 
-pub values_from : (xs : List Cell) → values_fit xs ≡ true → All ValueFits xs
+pub values_from : (xs : List Cell) → values_fit xs ≡ true → AllByRecursion ValueFits xs
 values_from [] h = tt
 values_from (x ∷ xs) h = let p = and_parts (value_fits x) (values_fit xs) h in (value_from x p.0, values_from xs p.1)
 
-pub rows_fit : (n w : ℕ) (xs : List Cell) → All ValueFits xs → All (All ValueFits) (rows n w xs)
+pub rows_fit : (n w : ℕ) (xs : List Cell) → AllByRecursion ValueFits xs → AllByRecursion (AllByRecursion ValueFits) (rows n w xs)
 rows_fit zero w xs h = tt
 rows_fit (suc n) w xs h = (All-take ValueFits w xs h, rows_fit n w (drop w xs) (All-drop ValueFits w xs h))
 

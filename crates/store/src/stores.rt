@@ -12,7 +12,7 @@ use layout::pairs::Pairs;
 
 mod calls;
 mod judging;
-mod readings;
+mod measuring;
 
 // What stands by the units is held in `standing` unless the store is cold, an open change in `change` while it is changing.
 #[derive(Drop)]
