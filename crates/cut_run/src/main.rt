@@ -7,7 +7,6 @@ use anyhow::anyhow;
 use compensation::datasheet::{UP, UT};
 use compensation::text::{degrees, hectopascals};
 use figures::example::example_pairs;
-use flash::faults::FlashFault;
 use flash::units::Unit;
 use runs::requests::Request;
 use runs::rooms::Room;

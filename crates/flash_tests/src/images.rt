@@ -1,6 +1,5 @@
 // The byte image on fixed buffers.
 use crate::shared::number;
-use flash::faults::FlashFault;
 use flash::interface::Flash;
 use flash::units::Unit;
 use image::{Image, check_image};

@@ -1,6 +1,6 @@
+// Tests of the flashes, alone and stacked.
 #![tactic(auto)]
 
-// Tests of the flashes, alone and stacked.
 #[cfg(test)]
 mod images;
 #[cfg(test)]

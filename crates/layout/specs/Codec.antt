@@ -1,7 +1,6 @@
 -- The values of units, and what a unit says.
 use Rattle.std.specs.Prelude.{ℕ, ◌/◌, ◌%◌, cond, ◌==◌, nat_le}
-use Rattle.std.specs.Int.{w32}
-use Rattle.std.proofs.Common.{to_z, of_z}
+use Rattle.std.specs.Int.{w32, cast_signed, cast_unsigned}
 use Rattle.flash.specs.declared.units.Unit.{Unit as Cell}
 use Rattle.flash.specs.declared.units.Unit.TheVariants.{Blank, Programmed, Unreadable}
 use Rattle.layout.specs.Contents.{crc_of, sealed, content}
@@ -23,7 +22,7 @@ word_of n = n % 4294967296
 
 -- the values that are written; a pair's value is in two's complement
 unfoldable pub record_value : Pair → ℕ
-record_value p = sealed (content 0x52 p.key (of_z w32 p.value))
+record_value p = sealed (content 0x52 p.key (cast_unsigned w32 p.value))
 
 unfoldable pub commit_value : ℕ → ℕ → ℕ
 commit_value count number = sealed (content 0x43 count number)
@@ -44,7 +43,7 @@ as_header count number = cond (nat_le count 48) (Header count number) Noise
 -- what a content says
 unfoldable pub content_meaning : ℕ → Meaning
 content_meaning n =
-    cond (mark_of n == 0x52) (as_record (pair_of (second_of n) (to_z w32 (word_of n))))
+    cond (mark_of n == 0x52) (as_record (pair_of (second_of n) (cast_signed w32 (word_of n))))
     (cond (mark_of n == 0x43) (as_commit (second_of n) (word_of n))
     (cond (mark_of n == 0x48) (as_header (second_of n) (word_of n)) Noise))
 

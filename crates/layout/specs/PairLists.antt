@@ -1,5 +1,5 @@
 -- Lists of pairs of a key and a value.
-use Rattle.std.specs.Prelude.{◌≡◌, ℕ, Bool, true, cond, ◌&&◌, ltb, List, [], ◌∷◌, take, ℤ, pos, Some, None, fold, Option, ◌==◌, nat_lt}
+use Rattle.std.specs.Prelude.{◌≡◌, ℕ, Bool, true, cond, ◌&&◌, List, [], ◌∷◌, take, ℤ, pos, Some, None, fold, Option, ◌==◌, nat_lt}
 use Rattle.std.specs.List.{prefix_len}
 use Rattle.layout.specs.Catalogue.{pair_of, admits}
 use Rattle.layout.specs.declared.meanings.Pair.{Pair}
@@ -36,7 +36,7 @@ well_formed ps = rising ps && all_admitted ps
 
 -- how many keys stand before the place of a key
 abbrev pub place_of : ℕ → List ℕ → ℕ
-place_of key ks = prefix_len (λ k. ltb k key) ks
+place_of key ks = prefix_len (λ k. nat_lt k key) ks
 
 -- the value of a key
 abbrev pub value_of : List Pair → ℕ → Option ℤ

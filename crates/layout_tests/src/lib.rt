@@ -1,6 +1,6 @@
+// Tests of the units of the store.
 #![tactic(auto)]
 
-// Tests of the units of the store.
 #[cfg(test)]
 mod tests {
     use flash::units::Unit;
