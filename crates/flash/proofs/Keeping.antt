@@ -37,14 +37,6 @@ module _ (s : FlashState) (b : ℕ) (on : s.on ≡ true) (there : b < length s.u
   pub erase_done : (d : FlashState) → 0 < s.charge → d ≡ after_write (with_bank s b (replicate s.width Blank)) → EraseDone s b d
   erase_done d h now = record { accepted = number_done s.charge (erase_refusal s b) (erase_refusal_open s b on there) h; is = now }
 
--- a program that its own read refuses
-pub program_unread : {F : Type 0} (t : FaultGhosts F) (e : F) (s : FlashState) (b u v : ℕ) → Refused t e (read_refusal s b u) b (Some u) → ProgramRefused t s b u v s e
-program_unread t e s b u v r =
-    let refused = r.refused in
-    let same : program_refusal s b u ≡ read_refusal s b u = grind (arith, nat_tests) in
-    let low : read_refusal s b u < 24 = grind (arith, nat_tests) in
-    record { why = record { number = r.number ∙ sym same; refused = omega arith; place = r.place }; unchanged = λ _. refl; cut = λ h. absurd (omega arith) }
-
 -- a bank that is not there
 pub erase_absent : {F : Type 0} (t : FaultGhosts F) (e : F) (s : FlashState) (b : ℕ) → s.on ≡ true → length s.units ≤ b → t.number e ≡ 22 → t.place e ≡ (b, None) → EraseRefused t s b s e
 erase_absent t e s b on far number place =

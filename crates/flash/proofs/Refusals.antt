@@ -3,18 +3,12 @@ use Rattle.std.proofs.Common.{◌≡◌, ℕ, ◌*◌, ◌<◌, ◌≤◌, true,
 use Rattle.std.proofs.ByRecursion.{All-get_or}
 use Rattle.std.proofs.lemmas.Bool.{lt-ltb, ne_eqb}
 use Rattle.std.proofs.lemmas.Bool.Decides.{nat_tests}
-use Rattle.std.proofs.lemmas.Nat.{mul-le}
 use Rattle.flash.specs.declared.units.Unit.TheVariants.{Blank}
 use Rattle.flash.specs.FlashState.{FlashState, unit_at, bank_of, WellFormed}
 use Rattle.flash.specs.Calls.{read_refusal, program_refusal, erase_refusal, by_refusal}
 
 pub bank_length : (c : FlashState) (b : ℕ) → WellFormed c → b < length c.units → length (bank_of c b) ≡ c.width
 bank_length c b s h = All-get_or (λ bank. length bank ≡ c.width) c.units b [] h s.shape
-
-pub width_small : (c : FlashState) (b : ℕ) → WellFormed c → b < length c.units → c.width ≤ 4096
-width_small c b s h =
-    let p : 1 * c.width ≤ length c.units * c.width = let q : 1 ≤ length c.units = omega arith in mul-le-mul_right c.width q in
-    omega (arith, p, s.size)
 
 -- a write where only the charge can stop it
 pub program_refusal_open : (c : FlashState) (b u : ℕ) → c.on ≡ true → b < length c.units → u < c.width → unit_at c b u ≡ Blank → program_refusal c b u ≡ cond (eqb c.charge 0) 24 0
@@ -42,9 +36,6 @@ number_cut n refusal e z = grind (arith, nat_tests)
 
 pub number_done : (n refusal : ℕ) → refusal ≡ cond (eqb n 0) 24 0 → 0 < n → refusal ≡ 0
 number_done n refusal e z = grind (arith, nat_tests)
-
-pub few_banks : (c : FlashState) → WellFormed c → 0 < c.width → length c.units ≤ 4096
-few_banks c s h = let m = mul-le (length c.units) 1 (length c.units) c.width (omega arith) (omega arith) in omega (arith, m, s.size)
 
 -- which of its three ways a write goes
 module _ {X : Type 0} (n : ℕ) (done cut same : X) where

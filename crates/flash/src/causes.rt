@@ -1,6 +1,8 @@
 // Why a flash refused a call, and where: what the fault of a layer with nothing below it holds.
 ghost use Rattle.std.specs.Prelude.{◌≡◌};
-ghost use Rattle.flash.specs.Causes.{cause_number, cause_place};
+ghost use Rattle.flash.specs.Causes.{cause_number, cause_place, cause_of};
+
+use crate::faults::Place;
 
 #[derive(Clone, Copy, PartialEq, Eq, Debug)]
 pub enum Why {
@@ -10,6 +12,7 @@ pub enum Why {
     Cut,
 }
 
+// kept: bank and unit by their names; a `Place` in one field would have to be taken apart wherever a cause is told.
 #[derive(Clone, Copy, PartialEq, Eq, Debug)]
 pub struct Cause {
     pub why: Why,
@@ -18,6 +21,13 @@ pub struct Cause {
 }
 
 impl Cause {
+    pub fn new(why: Why, bank: usize, unit: Option<usize>) -> Cause
+        ensures { result ≡ cause_of why bank unit }
+    {
+        Cause { why, bank, unit }
+    }
+
+    // kept: a match; as discriminants of the enum a number given twice would not compile, and the edit that gives one twice could show nothing
     pub fn number(&self) -> u8
         ensures { result ≡ cause_number self.now }
     {
@@ -29,7 +39,7 @@ impl Cause {
         }
     }
 
-    pub fn place(&self) -> (usize, Option<usize>)
+    pub fn place(&self) -> Place
         ensures { result ≡ cause_place self.now }
     {
         (self.bank, self.unit)

@@ -10,6 +10,8 @@ use crate::units::Unit;
 pub trait Flash {
     type Fault: FlashFault + Drop;
 
+    // kept: four ghost members and not one state, as docs/DECISIONS.md has it.
+
     // What each unit holds, bank by bank.
     ghost units: { Self → List (List Cell) };
 

@@ -4,5 +4,6 @@
 pub mod causes;
 pub mod faults;
 pub mod interface;
+pub mod own_faults;
 pub mod shapes;
 pub mod units;

@@ -1,9 +1,11 @@
 // The byte image on fixed buffers.
+ghost use Rattle.std.specs.Prelude.{◌<◌};
+
 use crate::shared::number;
 use flash::interface::Flash;
 use flash::units::Unit;
 use image::{Image, check_image};
-use std::alloc::{AllocError, Global};
+use std::alloc::Global;
 use std::test::Fail;
 
 // One bank of three units: programmed, blank with bytes left in its value, unreadable. The supply is 5.
@@ -16,10 +18,11 @@ pub(crate) fn three_units(charge: u8, power: u8) -> [u8; 44] {
     ]
 }
 
-fn open(heap: Global, bytes: &[u8]) -> Result<Option<Image>, AllocError> {
-    Ok(Image::open(bytes.to_vec(heap)?).ok())
+fn open(heap: Global, bytes: &[u8]) -> Result<Image, Fail> {
+    Ok(Image::open(bytes.to_vec(heap)?).ok().ok_or("image")?)
 }
 
+// kept: as `number`, for the check before opening.
 fn refusal(bytes: &[u8]) -> u8 {
     match check_image(bytes) {
         Ok(_) => 0,
@@ -30,26 +33,26 @@ fn refusal(bytes: &[u8]) -> u8 {
 #[test]
 fn reads_each_state(rt: HostRuntime) -> Result<(), Fail> {
     let mut bytes = three_units(0, 1);
-    let image = open(rt.alloc(), &bytes)?.ok_or("image")?;
+    let image = open(rt.alloc(), &bytes)?;
     assert_eq!(rt; image.banks(), 1);
     assert_eq!(rt; image.units_per_bank(), 3);
     assert_eq!(rt;
-        image.read(0, 0).ok().ok_or("read")?,
-        Unit::Programmed(0x01_02_03_04_05_06_07_08)
+        image.read(0, 0).ok(),
+        Some(Unit::Programmed(0x01_02_03_04_05_06_07_08))
     );
-    assert_eq!(rt; image.read(0, 1).ok().ok_or("read")?, Unit::Blank);
-    assert_eq!(rt; image.read(0, 2).ok().ok_or("read")?, Unit::Unreadable);
+    assert_eq!(rt; image.read(0, 1).ok(), Some(Unit::Blank));
+    assert_eq!(rt; image.read(0, 2).ok(), Some(Unit::Unreadable));
     assert_eq!(rt; number(image.read(0, 3)), 22);
     assert_eq!(rt; number(image.read(1, 0)), 22);
     bytes[17] = 2;
-    let image = open(rt.alloc(), &bytes)?.ok_or("image")?;
-    assert_eq!(rt; image.read(0, 0).ok().ok_or("read")?, Unit::Unreadable);
+    let image = open(rt.alloc(), &bytes)?;
+    assert_eq!(rt; image.read(0, 0).ok(), Some(Unit::Unreadable));
     Ok(())
 }
 
 #[test]
 fn power_byte_two_reads_as_off(rt: HostRuntime) -> Result<(), Fail> {
-    let mut image = open(rt.alloc(), &three_units(4, 2))?.ok_or("image")?;
+    let mut image = open(rt.alloc(), &three_units(4, 2))?;
     assert_eq!(rt; number(image.read(0, 0)), 21);
     assert_eq!(rt; number(image.program(0, 1, 6)), 21);
     assert_eq!(rt; number(image.erase(0)), 21);
@@ -59,7 +62,7 @@ fn power_byte_two_reads_as_off(rt: HostRuntime) -> Result<(), Fail> {
 
 #[test]
 fn power_up_sets_the_supply(rt: HostRuntime) -> Result<(), Fail> {
-    let mut image = open(rt.alloc(), &three_units(4, 0))?.ok_or("image")?;
+    let mut image = open(rt.alloc(), &three_units(4, 0))?;
     image.power_up();
     assert!(rt; image.into_bytes().as_slice() == three_units(5, 1).as_slice());
     Ok(())
@@ -67,21 +70,19 @@ fn power_up_sets_the_supply(rt: HostRuntime) -> Result<(), Fail> {
 
 #[test]
 fn program_writes_its_unit(rt: HostRuntime) -> Result<(), Fail> {
-    let mut image = open(rt.alloc(), &three_units(2, 1))?.ok_or("image")?;
+    let mut image = open(rt.alloc(), &three_units(2, 1))?;
     assert_eq!(rt; number(image.program(0, 0, 1)), 23);
     assert_eq!(rt; number(image.program(0, 1, 0x0a_0b_0c_0d_0e_0f_10_11)), 0);
     let mut after = three_units(1, 1);
     after[26] = 1;
-    for i in 0..8u8 {
-        after[27 + usize::from(i)] = 0x0a + i;
-    }
+    after[27..35].copy_from_slice(&[0x0a, 0x0b, 0x0c, 0x0d, 0x0e, 0x0f, 0x10, 0x11]);
     assert!(rt; image.into_bytes().as_slice() == after.as_slice());
     Ok(())
 }
 
 #[test]
 fn cut_program_writes_the_state(rt: HostRuntime) -> Result<(), Fail> {
-    let mut image = open(rt.alloc(), &three_units(0, 1))?.ok_or("image")?;
+    let mut image = open(rt.alloc(), &three_units(0, 1))?;
     assert_eq!(rt; number(image.program(0, 1, 6)), 24);
     let mut after = three_units(0, 0);
     after[26] = 2;
@@ -91,13 +92,11 @@ fn cut_program_writes_the_state(rt: HostRuntime) -> Result<(), Fail> {
 
 #[test]
 fn erase_writes_zeros(rt: HostRuntime) -> Result<(), Fail> {
-    let mut image = open(rt.alloc(), &three_units(1, 1))?.ok_or("image")?;
+    let mut image = open(rt.alloc(), &three_units(1, 1))?;
     assert_eq!(rt; number(image.erase(1)), 22);
     assert_eq!(rt; number(image.erase(0)), 0);
     let mut after = three_units(0, 1);
-    for i in 17..44 {
-        after[i] = 0;
-    }
+    after[17..44].fill(0);
     assert!(rt; image.into_bytes().as_slice() == after.as_slice());
     Ok(())
 }
@@ -105,22 +104,20 @@ fn erase_writes_zeros(rt: HostRuntime) -> Result<(), Fail> {
 // Half of three is one.
 #[test]
 fn cut_erase_reaches_the_lower_half(rt: HostRuntime) -> Result<(), Fail> {
-    let mut image = open(rt.alloc(), &three_units(0, 1))?.ok_or("image")?;
+    let mut image = open(rt.alloc(), &three_units(0, 1))?;
     assert_eq!(rt; number(image.erase(0)), 24);
     let mut after = three_units(0, 0);
-    for i in 17..26 {
-        after[i] = 0;
-    }
+    after[17..26].fill(0);
     assert!(rt; image.into_bytes().as_slice() == after.as_slice());
     Ok(())
 }
 
 // The refusal of the three units with one byte changed.
-fn changed(at: usize, to: u8) -> u8 {
+fn changed(at: usize, to: u8) -> u8
+    requires { at < 44 }
+{
     let mut bytes = three_units(0, 0);
-    if at < 44 {
-        bytes[at] = to;
-    }
+    bytes[at] = to;
     refusal(&bytes)
 }
 
@@ -137,15 +134,8 @@ fn refuses_to_open(rt: HostRuntime) -> Result<(), Fail> {
     assert_eq!(rt; changed(7, 2), 33);
     let mut bytes = three_units(0, 0).to_vec(rt.alloc())?;
     bytes.push(0)?;
-    match Image::open(bytes) {
-        Ok(_) => {
-            assert!(rt; false);
-            Ok(())
-        },
-        Err(e) => {
-            assert_eq!(rt; e.fault.number(), 33);
-            assert_eq!(rt; e.bytes.len(), 45);
-            Ok(())
-        }
-    }
+    let e = Image::open(bytes).err().ok_or("opened")?;
+    assert_eq!(rt; e.fault.number(), 33);
+    assert_eq!(rt; e.bytes.len(), 45);
+    Ok(())
 }

@@ -7,70 +7,61 @@ use flash::units::Unit;
 use image::Image;
 use mirror::Mirror;
 use simulator::Simulator;
-use std::alloc::{AllocError, Global};
+use std::alloc::Global;
 use std::test::Fail;
 
 // A simulator that is on, with a value in unit (0, 0) or nothing.
-fn held(heap: Global, value: Option<u64>) -> Result<Option<Simulator>, AllocError> {
-    let Some(mut s) = small(heap)? else {
-        return Ok(None);
-    };
+fn held(heap: Global, value: Option<u64>) -> Result<Simulator, Fail> {
+    let mut s = small(heap)?;
     s.power_up();
-    match value {
-        Some(v) => {
-            let _ = s.program(0, 0, v);
-        }
-        None => {}
+    if let Some(v) = value {
+        s.program(0, 0, v).ok().ok_or("program")?;
     }
-    Ok(Some(s))
+    Ok(s)
 }
 
 #[test]
 fn mirror_of_blank_and_value(rt: HostRuntime) -> Result<(), Fail> {
-    let a = held(rt.alloc(), None)?.ok_or("a")?;
-    let b = held(rt.alloc(), Some(7))?.ok_or("b")?;
+    let a = held(rt.alloc(), None)?;
+    let b = held(rt.alloc(), Some(7))?;
     let m = Mirror::new(a, b);
-    assert_eq!(rt; m.read(0, 0).ok().ok_or("read")?, Unit::Unreadable);
-    assert_eq!(rt; m.read(0, 1).ok().ok_or("read")?, Unit::Blank);
+    assert_eq!(rt; m.read(0, 0).ok(), Some(Unit::Unreadable));
+    assert_eq!(rt; m.read(0, 1).ok(), Some(Unit::Blank));
     let (a, b) = m.into_sides();
     let m = Mirror::new(b, a);
-    assert_eq!(rt; m.read(0, 0).ok().ok_or("read")?, Unit::Programmed(7));
+    assert_eq!(rt; m.read(0, 0).ok(), Some(Unit::Programmed(7)));
     Ok(())
 }
 
 #[test]
 fn mirror_writes_first_side_first(rt: HostRuntime) -> Result<(), Fail> {
-    let mut a = small(rt.alloc())?.ok_or("a")?;
-    let mut b = small(rt.alloc())?.ok_or("b")?;
+    let mut a = small(rt.alloc())?;
+    let mut b = small(rt.alloc())?;
     // One power-up takes one entry of each side: the first side's second entry would complete no write.
     assert_eq!(rt; a.add_entry(entry(1, 2, 0)), Some(1));
     assert_eq!(rt; a.add_entry(entry(0, 2, 0)), Some(2));
     assert_eq!(rt; b.add_entry(entry(0, 0, 0)), Some(1));
     let mut m = Mirror::new(a, b);
     m.power_up();
-    match m.program(1, 2, 8) {
-        Ok(_) => assert!(rt; false),
-        Err(e) => {
-            assert_eq!(rt; e.number(), 24);
-            assert_eq!(rt; e.layer(), "mirror");
-            assert_eq!(rt; e.place(), (1, Some(2)));
-        }
-    }
+    let e = m.program(1, 2, 8).err().ok_or("programmed")?;
+    assert_eq!(rt; e.number(), 24);
+    assert_eq!(rt; e.layer(), "mirror");
+    assert_eq!(rt; e.place(), (1, Some(2)));
     let (mut a, mut b) = m.into_sides();
-    assert_eq!(rt; a.read(1, 2).ok().ok_or("read")?, Unit::Programmed(8));
+    assert_eq!(rt; a.read(1, 2).ok(), Some(Unit::Programmed(8)));
     a.power_up();
     assert_eq!(rt; number(a.program(0, 0, 1)), 24);
     assert_eq!(rt; number(b.read(1, 2)), 21);
     b.power_up();
-    assert_eq!(rt; b.read(1, 2).ok().ok_or("read")?, Unit::Blank);
+    assert_eq!(rt; b.read(1, 2).ok(), Some(Unit::Blank));
     Ok(())
 }
 
 #[test]
 fn mirror_of_mirrors(rt: HostRuntime) -> Result<(), Fail> {
-    let a = small(rt.alloc())?.ok_or("a")?;
-    let b = small(rt.alloc())?.ok_or("b")?;
-    let mut c = small(rt.alloc())?.ok_or("c")?;
+    let a = small(rt.alloc())?;
+    let b = small(rt.alloc())?;
+    let mut c = small(rt.alloc())?;
     assert_eq!(rt; c.add_entry(entry(1, 2, 0)), Some(1));
     let mut m = Mirror::new(a, Mirror::new(b, c));
     m.power_up();
@@ -79,16 +70,16 @@ fn mirror_of_mirrors(rt: HostRuntime) -> Result<(), Fail> {
     assert_eq!(rt; number(m.program(0, 1, 8)), 24);
     assert_eq!(rt; number(m.read(0, 1)), 21);
     m.power_up();
-    assert_eq!(rt; m.read(0, 1).ok().ok_or("read")?, Unit::Programmed(8));
+    assert_eq!(rt; m.read(0, 1).ok(), Some(Unit::Programmed(8)));
     assert_eq!(rt; number(m.erase(0)), 0);
-    assert_eq!(rt; m.read(0, 0).ok().ok_or("read")?, Unit::Blank);
+    assert_eq!(rt; m.read(0, 0).ok(), Some(Unit::Blank));
     Ok(())
 }
 
 // Sides of other shapes: the mirror has the smaller numbers.
 #[test]
 fn mirror_of_simulator_and_image(rt: HostRuntime) -> Result<(), Fail> {
-    let simulator = small(rt.alloc())?.ok_or("simulator")?;
+    let simulator = small(rt.alloc())?;
     let bytes = three_units(0, 0).to_vec(rt.alloc())?;
     let image = Image::open(bytes).ok().ok_or("image")?;
     let mut m = Mirror::new(simulator, image);
@@ -96,12 +87,12 @@ fn mirror_of_simulator_and_image(rt: HostRuntime) -> Result<(), Fail> {
     assert_eq!(rt; m.banks(), 1);
     assert_eq!(rt; m.units_per_bank(), 3);
     // Blank beside a value, both blank, blank beside unreadable.
-    assert_eq!(rt; m.read(0, 0).ok().ok_or("read")?, Unit::Unreadable);
-    assert_eq!(rt; m.read(0, 1).ok().ok_or("read")?, Unit::Blank);
-    assert_eq!(rt; m.read(0, 2).ok().ok_or("read")?, Unit::Unreadable);
+    assert_eq!(rt; m.read(0, 0).ok(), Some(Unit::Unreadable));
+    assert_eq!(rt; m.read(0, 1).ok(), Some(Unit::Blank));
+    assert_eq!(rt; m.read(0, 2).ok(), Some(Unit::Unreadable));
     assert_eq!(rt; number(m.program(0, 1, 9)), 0);
     assert_eq!(rt; number(m.erase(0)), 0);
-    assert_eq!(rt; m.read(0, 1).ok().ok_or("read")?, Unit::Blank);
+    assert_eq!(rt; m.read(0, 1).ok(), Some(Unit::Blank));
     assert_eq!(rt; number(m.read(1, 0)), 22);
     Ok(())
 }

@@ -8,15 +8,16 @@ use std::test::Fail;
 
 #[test]
 fn makes_blank_and_off(rt: HostRuntime) -> Result<(), Fail> {
-    let mut s = small(rt.alloc())?.ok_or("shape")?;
+    let mut s = small(rt.alloc())?;
     assert_eq!(rt; number(s.read(0, 0)), 21);
     s.power_up();
-    assert_eq!(rt; s.read(1, 3).ok().ok_or("read")?, Unit::Blank);
+    assert_eq!(rt; s.read(1, 3).ok(), Some(Unit::Blank));
     assert_eq!(rt; number(s.read(1, 4)), 22);
     assert_eq!(rt; number(s.erase(2)), 22);
     Ok(())
 }
 
+// kept: as `number`, for the check before making.
 fn refusal(banks: usize, width: usize, size: usize) -> u8 {
     match check_shape(banks, width, size) {
         Ok(_) => 0,
@@ -31,44 +32,37 @@ fn refuses_shapes(rt: HostRuntime) -> Result<(), Fail> {
     assert_eq!(rt; refusal(16, 257, 4112), 32);
     assert_eq!(rt; refusal(16, 256, 4096), 0);
     let table = vec![in rt.alloc(); Unit::Unreadable; 7]?;
-    match Simulator::new(2, 4, table) {
-        Ok(_) => {
-            assert!(rt; false);
-            Ok(())
-        },
-        Err(e) => {
-            assert_eq!(rt; e.fault.number(), 33);
-            assert_eq!(rt; e.table.len(), 7);
-            Ok(())
-        }
-    }
+    let e = Simulator::new(2, 4, table).err().ok_or("made")?;
+    assert_eq!(rt; e.fault.number(), 33);
+    assert_eq!(rt; e.table.len(), 7);
+    Ok(())
 }
 
 #[test]
 fn takes_entries_in_order(rt: HostRuntime) -> Result<(), Fail> {
-    let mut s = small(rt.alloc())?.ok_or("shape")?;
+    let mut s = small(rt.alloc())?;
     assert_eq!(rt; s.add_entry(entry(0, 0, 0)), Some(1));
     assert_eq!(rt; s.add_entry(entry(0, 1, 0)), Some(2));
     s.power_up();
     assert_eq!(rt; number(s.program(0, 0, 5)), 24);
     s.power_up();
-    assert_eq!(rt; s.read(0, 0).ok().ok_or("read")?, Unit::Blank);
+    assert_eq!(rt; s.read(0, 0).ok(), Some(Unit::Blank));
     assert_eq!(rt; number(s.program(0, 0, 5)), 24);
     s.power_up();
-    assert_eq!(rt; s.read(0, 0).ok().ok_or("read")?, Unit::Programmed(5));
+    assert_eq!(rt; s.read(0, 0).ok(), Some(Unit::Programmed(5)));
     assert_eq!(rt; number(s.program(0, 0, 6)), 23);
     // An entry planned after the last power-up is the next one taken.
     assert_eq!(rt; s.add_entry(entry(0, 9, 0)), Some(3));
     s.power_up();
     assert_eq!(rt; number(s.program(0, 1, 6)), 24);
     s.power_up();
-    assert_eq!(rt; s.read(0, 1).ok().ok_or("read")?, Unit::Unreadable);
+    assert_eq!(rt; s.read(0, 1).ok(), Some(Unit::Unreadable));
     Ok(())
 }
 
 #[test]
 fn plan_has_sixteen_places(rt: HostRuntime) -> Result<(), Fail> {
-    let mut s = small(rt.alloc())?.ok_or("shape")?;
+    let mut s = small(rt.alloc())?;
     for n in 0..16usize {
         s.power_up();
         assert_eq!(rt; s.add_entry(entry(1, 0, 0)), Some(n + 1));
@@ -79,25 +73,21 @@ fn plan_has_sixteen_places(rt: HostRuntime) -> Result<(), Fail> {
 
 #[test]
 fn cut_erase_goes_by_pattern(rt: HostRuntime) -> Result<(), Fail> {
-    let mut s = small(rt.alloc())?.ok_or("shape")?;
+    let mut s = small(rt.alloc())?;
     // Units 0 to 3 by 0, 1, 2 and 3.
     assert_eq!(rt; s.add_entry(entry(4, 0, 0b11_10_01_00)), Some(1));
     s.power_up();
     for u in 0..4usize {
         assert_eq!(rt; number(s.program(1, u, 7)), 0);
     }
-    match s.erase(1) {
-        Ok(_) => assert!(rt; false),
-        Err(e) => {
-            assert_eq!(rt; e.number(), 24);
-            assert_eq!(rt; e.layer(), "simulator");
-            assert_eq!(rt; e.place(), (1, None));
-        }
-    }
+    let e = s.erase(1).err().ok_or("erased")?;
+    assert_eq!(rt; e.number(), 24);
+    assert_eq!(rt; e.layer(), "simulator");
+    assert_eq!(rt; e.place(), (1, None));
     s.power_up();
-    assert_eq!(rt; s.read(1, 0).ok().ok_or("read")?, Unit::Programmed(7));
-    assert_eq!(rt; s.read(1, 1).ok().ok_or("read")?, Unit::Blank);
-    assert_eq!(rt; s.read(1, 2).ok().ok_or("read")?, Unit::Unreadable);
-    assert_eq!(rt; s.read(1, 3).ok().ok_or("read")?, Unit::Unreadable);
+    assert_eq!(rt; s.read(1, 0).ok(), Some(Unit::Programmed(7)));
+    assert_eq!(rt; s.read(1, 1).ok(), Some(Unit::Blank));
+    assert_eq!(rt; s.read(1, 2).ok(), Some(Unit::Unreadable));
+    assert_eq!(rt; s.read(1, 3).ok(), Some(Unit::Unreadable));
     Ok(())
 }

@@ -1,6 +1,6 @@
 -- An image as a flash. Assumes nothing.
 use Rattle.std.specs.Prelude.{◌≡◌, ℕ, ◌+◌, ◌-◌, ◌*◌, ◌/◌, ◌^◌, ◌<◌, ◌≤◌, true, List, [], length, set, replicate, slice_index_or, slice_set}
-use Rattle.std.proofs.Common.{sym, ◌∙◌, arith, mod-eq_of_lt, zero-add, mul-le-mul_right, lit<, lit≤}
+use Rattle.std.proofs.Common.{sym, ◌∙◌, arith, mod-eq_of_lt, zero-add, lit<, lit≤}
 use Rattle.std.proofs.Math.Path.{ap, subst}
 use Rattle.std.specs.List.{AllZip}
 use Rattle.std.proofs.lemmas.List.FromFn.{length-map-range_with_len, get_or-map-range_with_len}
@@ -40,13 +40,6 @@ unit_is bs b u h k =
 
 -- where a bank and a unit stand in the buffer
 module _ (bs : List ℕ) (o : Opened bs) (b : ℕ) (there : b < image_banks bs) where
-  pub width_few : image_width bs ≤ 4096
-  width_few =
-      let q : 1 ≤ image_banks bs = omega arith in
-      let m = mul-le-mul_right (image_width bs) q in
-      let z : 1 * image_width bs ≡ image_width bs = omega arith in
-      omega (arith, o.small)
-
   pub bank_room : unit_place (image_width bs) b 0 + 9 * image_width bs ≤ length bs
   bank_room = let m = row_after (image_width bs) b (image_banks bs) there in omega (arith, o.full)
 
@@ -170,25 +163,3 @@ module _ (bs : List ℕ) (o : Opened bs) (b : ℕ) (there : b < image_banks bs) 
       let s = zeros_same_but bs i (9 * (w / 2)) i (i + 9 * w) (omega arith) (omega arith) in
       let long = s.long in
       flash_off cs (omega arith) ∙ ap after_cut (flash_bank bs cs b s there)
-
--- every write keeps the length and what the check looks at
-module _ (bs : List ℕ) (i : ℕ) (far : 17 ≤ i) where
-  pub program_same_but : (v : ℕ) → SameBut bs (paid (unit_written bs i v)) 8 (i + 9)
-  program_same_but v =
-      let cs = unit_written bs i v in
-      both bs cs (paid cs) 8 (i + 9) (wider bs cs i (i + 9) 8 (i + 9) (omega arith) (omega arith) (written_same_but bs i v)) (wider cs (paid cs) 8 12 8 (i + 9) (omega arith) (omega arith) (paid_same_but cs))
-
-  pub cut_program_same_but : SameBut bs (switched_off (slice_set bs i 2)) 8 (i + 9)
-  cut_program_same_but =
-      let cs = set bs i 2 in
-      both bs cs (switched_off cs) 8 (i + 9) (set_same_but bs i 2 8 (i + 9) (omega arith) (omega arith)) (set_same_but cs 16 0 8 (i + 9) (omega arith) (omega arith))
-
-  pub erase_same_but : (n : ℕ) → SameBut bs (paid (with_zeros bs i n)) 8 (i + n)
-  erase_same_but n =
-      let cs = with_zeros bs i n in
-      both bs cs (paid cs) 8 (i + n) (zeros_same_but bs i n 8 (i + n) (omega arith) (omega arith)) (wider cs (paid cs) 8 12 8 (i + n) (omega arith) (omega arith) (paid_same_but cs))
-
-  pub cut_erase_same_but : (n : ℕ) → SameBut bs (switched_off (with_zeros bs i n)) 8 (i + n)
-  cut_erase_same_but n =
-      let cs = with_zeros bs i n in
-      both bs cs (switched_off cs) 8 (i + n) (zeros_same_but bs i n 8 (i + n) (omega arith) (omega arith)) (set_same_but cs 16 0 8 (i + n) (omega arith) (omega arith))

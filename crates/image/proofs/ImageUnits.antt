@@ -1,6 +1,6 @@
 -- The units that bytes spell, and what a write leaves of them. Assumes nothing.
-use Rattle.std.specs.Prelude.{◌≡◌, ℕ, zero, suc, ◌+◌, ◌*◌, ◌/◌, ◌^◌, ◌<◌, ◌≤◌, List, map, length, set, replicate, ◌≢◌, slice_index, slice_index_or, slice_set, refl}
-use Rattle.std.proofs.Common.{sym, ap, ◌∙◌, inl, inr, ⊎_elim, arith, mul-le-mul_right, mod-eq_of_lt, zero-add}
+use Rattle.std.specs.Prelude.{◌≡◌, ℕ, zero, suc, ◌+◌, ◌*◌, ◌/◌, ◌^◌, ◌<◌, ◌≤◌, List, map, length, set, replicate, take, drop, ◌≢◌, slice_index, slice_index_or, slice_set}
+use Rattle.std.proofs.Common.{sym, ap, ◌∙◌, inl, inr, ⊎_elim, arith, mul-le-mul_right, mod-eq_of_lt, zero-add, add-zero, lit<}
 use Rattle.std.specs.List.{range_with_len, AllZip}
 use Rattle.std.proofs.lemmas.List.FromFn.{length-map-range_with_len, get_or-map-range_with_len, fill_by_all}
 use Rattle.std.proofs.lemmas.List.{length-set, length-replicate, get_or-replicate, get_or-set_same, get_or-set_other}
@@ -9,19 +9,14 @@ use Rattle.flash.specs.declared.units.Unit.TheVariants.{Blank, Programmed, Unrea
 use Rattle.flash.specs.Calls.{EraseResidue}
 use Rattle.image.specs.ImageBytes.{be_at, with_zeros}
 use Rattle.image.specs.ImageStates.{unit_place, unit_from, bank_from, banks_from, unit_written}
-use Rattle.image.proofs.ImageNumbers.{SameBut, both, set_same_but, put_same_but, zeros_same_but, be_kept_below, be_kept_above, put_read, zeros_read}
+use Rattle.image.proofs.ImageNumbers.{part_at, be_same, SameBut, both, set_same_but, put_same_but, zeros_same_but, be_kept_below, be_kept_above, put_read, zeros_read}
 
 -- lists made from functions of the index
 module _ {X : Type 0} (f g : ℕ → X) where
-  same_from : (a n : ℕ) → ((k : ℕ) → a ≤ k → k < a + n → f k ≡ g k) → map {A = ℕ} {B = X} f (range_with_len a n) ≡ map {A = ℕ} {B = X} g (range_with_len a n)
-  same_from a zero h = refl
-  same_from a (suc n) h =
-      let here = h a (omega arith) (omega arith) in
-      let rest = same_from (a + 1) n (λ k p q. h k (omega arith) (omega arith)) in
-      rw (here, rest)
-
   pub same_counted : (n : ℕ) → ((k : ℕ) → k < n → f k ≡ g k) → map {A = ℕ} {B = X} f (range_with_len 0 n) ≡ map {A = ℕ} {B = X} g (range_with_len 0 n)
-  same_counted n h = same_from 0 n (λ k p q. h k (omega arith))
+  same_counted n h =
+      let xs = map {A = ℕ} {B = X} g (range_with_len 0 n) in
+      sym (fill_by_all f xs n (f 0) (length-map-range_with_len g 0 n) (λ k p. get_or-map-range_with_len g 0 n k k (f 0) p (zero-add k) ∙ sym (h k p)))
 
   pub set_counted : (n i : ℕ) → i < n → ((k : ℕ) → k < n → (k ≢ i) → f k ≡ g k) → map {A = ℕ} {B = X} f (range_with_len 0 n) ≡ slice_set (map {A = ℕ} {B = X} g (range_with_len 0 n)) i (f i)
   set_counted n i h same =
@@ -51,6 +46,14 @@ row_after w b c h =
     let m = mul-le-mul_right w q in
     let z : (b + 1) * w ≡ b * w + w = omega arith in
     omega arith
+
+-- the nine bytes of a unit, taken out
+pub unit_alone : (bs : List ℕ) (i : ℕ) → unit_from (take 9 (drop i bs)) 0 ≡ unit_from bs i
+unit_alone bs i =
+    let cs = take 9 (drop i bs) in
+    let state = part_at bs i 9 0 (lit< tt) in
+    let value : be_at cs 1 8 ≡ be_at bs (i + 1) 8 = be_same bs cs (i + 1) 1 8 (λ k h. part_at bs i 9 (1 + k) (omega arith) ∙ ap (λ j. slice_index bs j) (let e : i + (1 + k) ≡ i + 1 + k = omega arith in e)) in
+    rw (state, value, add-zero)
 
 -- a write elsewhere leaves a unit
 module _ (bs cs : List ℕ) (lo hi : ℕ) (s : SameBut bs cs lo hi) where

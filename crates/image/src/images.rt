@@ -20,3 +20,4 @@ pub struct Image {
 
 pub mod calls;
 pub mod opens;
+mod writes;

@@ -1,12 +1,11 @@
 // A flash kept in a byte buffer.
 #![tactic(auto)]
 
-mod image_bytes;
+mod headers;
 pub mod image_checks;
 pub mod image_faults;
-mod image_fields;
-mod image_writes;
 pub mod images;
+mod units;
 
 pub use image_checks::{OpenFault, check_image};
 pub use image_faults::ImageFault;

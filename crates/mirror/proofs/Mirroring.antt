@@ -1,12 +1,13 @@
 -- Two flashes side by side act as one. Assumes nothing.
-use Rattle.std.proofs.Common.{◌≡◌, ℕ, zero, suc, ◌-◌, ◌<◌, min, Bool, true, false, cond, ◌&&◌, eqb, List, [], ◌∷◌, length, get_or, set, replicate, Some, None, Ok, Err, Option, Result, sym, refl, ap, ◌∙◌, subst, inl, inr, arith, lit<}
+use Rattle.std.proofs.Common.{◌≡◌, ℕ, zero, suc, ◌-◌, ◌<◌, min, Bool, true, false, cond, ◌&&◌, eqb, List, [], ◌∷◌, length, get_or, set, replicate, Some, None, Ok, Err, Result, MatchResult, is_ok, sym, refl, ap, ◌∙◌, subst, inl, inr, arith, lit<}
 use Rattle.std.specs.List.{AllZip}
+use Rattle.std.proofs.lemmas.Bool.{and_from}
 use Rattle.std.proofs.lemmas.List.{set-get_or}
 use Rattle.flash.specs.declared.faults.FlashFault.{Ghosts as FaultGhosts}
 use Rattle.flash.specs.declared.units.Unit.{Unit as Cell}
 use Rattle.flash.specs.declared.units.Unit.TheVariants.{Blank, Programmed, Unreadable}
 use Rattle.flash.specs.FlashState.{FlashState, flash_state, WellFormed, bank_of, unit_at, with_bank, with_unit, after_write, after_cut}
-use Rattle.flash.specs.Calls.{read_refusal, program_refusal, erase_refusal, ProgramResidue, EraseResidue, Program, ProgramDone, ProgramRefused, Erase, EraseDone, EraseRefused}
+use Rattle.flash.specs.Calls.{read_refusal, program_refusal, erase_refusal, ProgramResidue, EraseResidue, Read, Program, ProgramDone, ProgramRefused, Erase, EraseDone, EraseRefused}
 use Rattle.flash.specs.declared.causes.Cause.{Cause}
 use Rattle.flash.specs.declared.causes.Why.{Why}
 use Rattle.flash.specs.declared.causes.Why.TheVariants.{Off, Missing, NotBlank, Cut}
@@ -16,7 +17,7 @@ use Rattle.mirror.specs.declared.mirror_faults.MirrorFault.TheVariants.{Own, Fir
 use Rattle.mirror.specs.MirrorSides.{mirror_fault, ProgramSides, EraseSides, SideCuts}
 use Rattle.mirror.specs.Formed.{beside_length}
 use Rattle.mirror.specs.Mirrored.{mixed, beside, mixed_units, mirrored}
-use Rattle.flash.proofs.Refusals.{bank_length, program_refusal_open, erase_refusal_open, read_refusal_parts, charge_left, charge_out, number_cut, number_done}
+use Rattle.flash.proofs.Refusals.{bank_length, read_refusal_open, program_refusal_open, erase_refusal_open, read_refusal_parts, charge_left, charge_out, number_cut, number_done}
 
 -- lists side by side
 pub beside_get_or : {X Y Z : Type 0} (f : X → Y → Z) (xs : List X) (ys : List Y) (i : ℕ) (d : X) (e : Y) (z : Z) → i < length xs → i < length ys → get_or (beside f xs ys) i z ≡ f (get_or xs i d) (get_or ys i e)
@@ -42,9 +43,9 @@ pub mixed_blank : (x y : Cell) → mixed x y ≡ Blank → (x ≡ Blank) × (y �
 mixed_blank Blank Blank h = (refl, refl)
 mixed_blank Blank (Programmed v) h = (refl, cc)
 mixed_blank Blank Unreadable h = (refl, cc)
-mixed_blank (Programmed v) y h = let z : ◌≡◌ {A = ℕ} 0 1 = cc in absurd (omega arith)
+mixed_blank (Programmed v) y h = (cc, cc)
 mixed_blank Unreadable Blank h = (cc, refl)
-mixed_blank Unreadable (Programmed v) h = let z : ◌≡◌ {A = ℕ} 0 1 = cc in absurd (omega arith)
+mixed_blank Unreadable (Programmed v) h = (cc, cc)
 mixed_blank Unreadable Unreadable h = (h, h)
 
 program_residue_first : (v : ℕ) (x : Cell) → ProgramResidue v x → ProgramResidue v (mixed x Blank)
@@ -121,9 +122,6 @@ and_false : (x : Bool) → (x && false) ≡ false
 and_false true = refl
 and_false false = refl
 
-pub cut_first : (a b : FlashState) → mirrored (after_cut a) b ≡ after_cut (mirrored a b)
-cut_first a b = refl
-
 pub cut_second : (a b : FlashState) → mirrored a (after_cut b) ≡ after_cut (mirrored a b)
 cut_second a b = ap (λ p. flash_state (mixed_units a.units b.units) (min a.width b.width) p (min a.charge b.charge)) (and_false a.on)
 
@@ -135,7 +133,7 @@ write_second a b z = let e : min a.charge (b.charge - 1) ≡ min a.charge b.char
 
 and_both : (x y : Bool) → (x && y) ≡ true → (x ≡ true) × (y ≡ true)
 and_both true y h = (refl, h)
-and_both false y h = let z : ◌≡◌ {A = ℕ} 0 1 = cc in absurd (omega arith)
+and_both false y h = (cc, cc)
 
 -- both sides have what the mirror has
 pub record Both (a b : FlashState) (k : ℕ) : Type 0 where
@@ -150,6 +148,35 @@ both_from a b k on h =
     let p = and_both a.on b.on on in
     record { on_first = p.0; on_second = p.1; in_first = omega arith; in_second = omega arith }
 
+-- where both sides are on, a read of a unit that the mirror has is not refused
+pub mirror_accepts : (a b : FlashState) (k u : ℕ) → a.on ≡ true → b.on ≡ true → k < length (mirrored a b).units → u < (mirrored a b).width → read_refusal (mirrored a b) k u ≡ 0
+mirror_accepts a b k u on on' there wide = read_refusal_open (mirrored a b) k u (and_from a.on b.on on on') there wide
+
+-- what such a read finds
+pub mirror_holds : (a b : FlashState) (k u : ℕ) → WellFormed a → WellFormed b → read_refusal (mirrored a b) k u ≡ 0 → unit_at (mirrored a b) k u ≡ mixed (unit_at a k u) (unit_at b k u)
+mirror_holds a b k u s t z =
+    let p = read_refusal_parts (mirrored a b) k u z in
+    let both = both_from a b k p.0 p.1 in
+    let wide = p.2 in
+    mirrored_unit_at a b k u s t both.in_first both.in_second (omega arith) (omega arith)
+
+-- a read that the mirror lets through: both sides take it, and answer the unit, also where their fault is made another
+pub sides_accept : (a b : FlashState) (k u : ℕ) → read_refusal (mirrored a b) k u ≡ 0 → (read_refusal a k u ≡ 0) × (read_refusal b k u ≡ 0)
+sides_accept a b k u z =
+    let p = read_refusal_parts (mirrored a b) k u z in
+    let both = both_from a b k p.0 p.1 in
+    let wide = p.2 in
+    (read_refusal_open a k u both.on_first both.in_first (omega arith), read_refusal_open b k u both.on_second both.in_second (omega arith))
+
+module _ {E : Type 0} (p : FaultGhosts E) (a : FlashState) (k u : ℕ) where
+  pub reads_ok : (r : Result Cell E) → Read p a k u r → read_refusal a k u ≡ 0 → is_ok r ≡ true
+  reads_ok (Ok x) h z = refl
+  reads_ok (Err e) h z = let refused = h.refused in absurd (omega arith)
+
+  pub reads_unit : {F : Type 0} (Q : E → Type 0) (r : Result Cell E) (m : Result Cell F) (x : Cell) → Read p a k u r → read_refusal a k u ≡ 0 → MatchResult r (λ y. m ≡ Ok y) Q → m ≡ Ok x → x ≡ unit_at a k u
+  reads_unit Q (Ok y) m x h z same is = let value = h.value in cc
+  reads_unit Q (Err e) m x h z same is = let refused = h.refused in absurd (omega arith)
+
 -- a program through a mirror whose unit is there and blank
 module _ (a b : FlashState) (k u v : ℕ) (s : WellFormed a) (t : WellFormed b) (there : read_refusal (mirrored a b) k u ≡ 0) (free : unit_at (mirrored a b) k u ≡ Blank) where
   parts : ((mirrored a b).on ≡ true) × (k < length (mirrored a b).units) × (u < (mirrored a b).width)
@@ -159,11 +186,7 @@ module _ (a b : FlashState) (k u v : ℕ) (s : WellFormed a) (t : WellFormed b) 
   both = both_from a b k parts.0 parts.1
 
   free_first_second : (unit_at a k u ≡ Blank) × (unit_at b k u ≡ Blank)
-  free_first_second =
-      let w = parts.2 in
-      let p : u < a.width = omega arith in
-      let q : u < b.width = omega arith in
-      mixed_blank (unit_at a k u) (unit_at b k u) (sym (mirrored_unit_at a b k u s t both.in_first both.in_second p q) ∙ free)
+  free_first_second = mixed_blank (unit_at a k u) (unit_at b k u) (sym (mirror_holds a b k u s t there) ∙ free)
 
   first_refusal : program_refusal a k u ≡ cond (eqb a.charge 0) 24 0
   first_refusal = let w = parts.2 in program_refusal_open a k u both.on_first both.in_first (omega arith) free_first_second.0
@@ -230,9 +253,6 @@ why_positive Cut = lit< tt
 positive : (c : Cause) (n : ℕ) → cause_number c ≡ n → 0 < n
 positive c n e = let P : ℕ → Type 0 = λ m. 0 < m in subst P e (why_positive c.why)
 
-same_place : (k k' : ℕ) (u u' : Option ℕ) → k' ≡ k → u' ≡ u → ◌≡◌ {A = ℕ × Option ℕ} (k', u') (k, u)
-same_place k k' u u' e f = cc
-
 -- what the two sides did is what a program of the mirror does
 module _ {E F : Type 0} (p : FaultGhosts E) (q : FaultGhosts F) (a b : FlashState) (k u v : ℕ) (s : WellFormed a) (t : WellFormed b) (there : read_refusal (mirrored a b) k u ≡ 0) (free : unit_at (mirrored a b) k u ≡ Blank) where
   pub program_by_sides : (a' b' : FlashState) (r : Result (Unit {0}) (MirrorFault E F)) → ProgramSides p q a b a' b' k u v r → Program (mirror_fault p q) (mirrored a b) k u v (mirrored a' b') r × SideCuts p q r
@@ -240,13 +260,11 @@ module _ {E F : Type 0} (p : FaultGhosts E) (q : FaultGhosts F) (a b : FlashStat
   program_by_sides a' b' (Err (Own c)) h =
       let low = h.own in
       (record { why = record { number = h.number; refused = positive c _ h.number; place = h.place }; unchanged = λ _. ap (λ z. mirrored z b') h.first ∙ ap (mirrored a) h.second; cut = λ z. absurd (omega arith) }, tt)
-  program_by_sides a' b' (Err (First k' u' e)) h =
-      let place = same_place k k' (Some u) u' h.place.0 h.place.1 in
-      let P : FlashState → Type 0 = λ z. ProgramRefused (mirror_fault p q) (mirrored a b) k u v (mirrored a' z) (First k' u' e) in
-      (subst P (sym h.second) (program_first a b k u v s t there free p (mirror_fault p q) e (First k' u' e) refl place a' h.first), program_cut_first a b k u v s t there free p e a' h.first)
-  program_by_sides a' b' (Err (Second k' u' e)) h =
-      let place = same_place k k' (Some u) u' h.place.0 h.place.1 in
-      (program_second a b k u v s t there free q (mirror_fault p q) e (Second k' u' e) refl place a' b' h.first h.second, program_cut_second a b k u v s t there free q e b' h.second)
+  program_by_sides a' b' (Err (First at e)) h =
+      let P : FlashState → Type 0 = λ z. ProgramRefused (mirror_fault p q) (mirrored a b) k u v (mirrored a' z) (First at e) in
+      (subst P (sym h.second) (program_first a b k u v s t there free p (mirror_fault p q) e (First at e) refl h.place a' h.first), program_cut_first a b k u v s t there free p e a' h.first)
+  program_by_sides a' b' (Err (Second at e)) h =
+      (program_second a b k u v s t there free q (mirror_fault p q) e (Second at e) refl h.place a' b' h.first h.second, program_cut_second a b k u v s t there free q e b' h.second)
 
 -- an erase through a mirror whose bank is there
 module _ (a b : FlashState) (k : ℕ) (s : WellFormed a) (t : WellFormed b) (on : (mirrored a b).on ≡ true) (there : k < length (mirrored a b).units) where
@@ -326,10 +344,8 @@ module _ {E F : Type 0} (p : FaultGhosts E) (q : FaultGhosts F) (a b : FlashStat
   erase_by_sides a' b' (Err (Own c)) h =
       let low = h.own in
       (record { why = record { number = h.number; refused = positive c _ h.number; place = h.place }; unchanged = λ _. ap (λ z. mirrored z b') h.first ∙ ap (mirrored a) h.second; cut = λ z. absurd (omega arith) }, tt)
-  erase_by_sides a' b' (Err (First k' u' e)) h =
-      let place = same_place k k' None u' h.place.0 h.place.1 in
-      (erase_first a b k s t on there p (mirror_fault p q) e (First k' u' e) refl place a' b' h.second h.first, erase_cut_first a b k s t on there p e a' h.first)
-  erase_by_sides a' b' (Err (Second k' u' e)) h =
-      let place = same_place k k' None u' h.place.0 h.place.1 in
-      let P : FlashState → Type 0 = λ z. EraseRefused (mirror_fault p q) (mirrored a b) k (mirrored z b') (Second k' u' e) in
-      (subst P (sym h.first) (erase_second a b k s t on there q (mirror_fault p q) e (Second k' u' e) refl place b' h.second), erase_cut_second a b k s t on there q e b' h.second)
+  erase_by_sides a' b' (Err (First at e)) h =
+      (erase_first a b k s t on there p (mirror_fault p q) e (First at e) refl h.place a' b' h.second h.first, erase_cut_first a b k s t on there p e a' h.first)
+  erase_by_sides a' b' (Err (Second at e)) h =
+      let P : FlashState → Type 0 = λ z. EraseRefused (mirror_fault p q) (mirrored a b) k (mirrored z b') (Second at e) in
+      (subst P (sym h.first) (erase_second a b k s t on there q (mirror_fault p q) e (Second at e) refl h.place b' h.second), erase_cut_second a b k s t on there q e b' h.second)

@@ -8,11 +8,11 @@ use Rattle.mirror.specs.declared.mirror_faults.MirrorFault.TheVariants.{Own, Fir
 -- a side's fault keeps its number
 abbrev pub mirror_number : {E F : Type 0} → FaultGhosts E → FaultGhosts F → MirrorFault E F → ℕ
 mirror_number p q (Own c) = cause_number c
-mirror_number p q (First b u e) = p.number e
-mirror_number p q (Second b u e) = q.number e
+mirror_number p q (First at e) = p.number e
+mirror_number p q (Second at e) = q.number e
 
 -- the place as the mirror counts it
 abbrev pub mirror_place : {E F : Type 0} → MirrorFault E F → ℕ × Option ℕ
 mirror_place (Own c) = cause_place c
-mirror_place (First b u e) = (b, u)
-mirror_place (Second b u e) = (b, u)
+mirror_place (First at e) = at
+mirror_place (Second at e) = at

@@ -27,15 +27,15 @@ pub record OwnRefusal (c : Cause) (n k : ℕ) (u : Option ℕ) (a b a' b' : Flas
 abbrev pub ReadSides : {E F : Type 0} → (a b : FlashState) → (k u : ℕ) → Result Cell (MirrorFault E F) → Type 0
 ReadSides a b k u (Ok x) = x ≡ mixed (unit_at a k u) (unit_at b k u)
 ReadSides a b k u (Err (Own c)) = OwnRefusal c (read_refusal (mirrored a b) k u) k (Some u) a b a b
-ReadSides a b k u (Err (First k' u' e)) = ⊥
-ReadSides a b k u (Err (Second k' u' e)) = ⊥
+ReadSides a b k u (Err (First at e)) = ⊥
+ReadSides a b k u (Err (Second at e)) = ⊥
 
 -- a side that refuses is cut: 21 to 23 are the mirror's own
 abbrev pub SideCuts : {E F : Type 0} → FaultGhosts E → FaultGhosts F → Result (Unit {0}) (MirrorFault E F) → Type 0
 SideCuts p q (Ok x) = Unit {0}
 SideCuts p q (Err (Own c)) = Unit {0}
-SideCuts p q (Err (First k u e)) = p.number e ≡ 24
-SideCuts p q (Err (Second k u e)) = q.number e ≡ 24
+SideCuts p q (Err (First at e)) = p.number e ≡ 24
+SideCuts p q (Err (Second at e)) = q.number e ≡ 24
 
 -- program: the first side completed, then the second
 pub record ProgramBoth (a b a' b' : FlashState) (k u v : ℕ) : Type 0 where
@@ -43,22 +43,22 @@ pub record ProgramBoth (a b a' b' : FlashState) (k u v : ℕ) : Type 0 where
   pub second : ProgramDone b k u v b'
 
 -- program: the first side refused, and the second not called
-pub record ProgramFirst {E : Type 0} (p : FaultGhosts E) (a b a' b' : FlashState) (k u v k' : ℕ) (u' : Option ℕ) (e : E) : Type 0 where
-  pub place : (k' ≡ k) × (u' ≡ Some u)
+pub record ProgramFirst {E : Type 0} (p : FaultGhosts E) (a b a' b' : FlashState) (k u v : ℕ) (at : ℕ × Option ℕ) (e : E) : Type 0 where
+  pub place : at ≡ (k, Some u)
   pub first : ProgramRefused p a k u v a' e
   pub second : b' ≡ b
 
 -- program: the first side completed, and the second refused
-pub record ProgramSecond {F : Type 0} (q : FaultGhosts F) (a b a' b' : FlashState) (k u v k' : ℕ) (u' : Option ℕ) (e : F) : Type 0 where
-  pub place : (k' ≡ k) × (u' ≡ Some u)
+pub record ProgramSecond {F : Type 0} (q : FaultGhosts F) (a b a' b' : FlashState) (k u v : ℕ) (at : ℕ × Option ℕ) (e : F) : Type 0 where
+  pub place : at ≡ (k, Some u)
   pub first : ProgramDone a k u v a'
   pub second : ProgramRefused q b k u v b' e
 
 abbrev pub ProgramSides : {E F : Type 0} → FaultGhosts E → FaultGhosts F → (a b a' b' : FlashState) → (k u v : ℕ) → Result (Unit {0}) (MirrorFault E F) → Type 0
 ProgramSides p q a b a' b' k u v (Ok x) = ProgramBoth a b a' b' k u v
 ProgramSides p q a b a' b' k u v (Err (Own c)) = OwnRefusal c (program_refusal (mirrored a b) k u) k (Some u) a b a' b'
-ProgramSides p q a b a' b' k u v (Err (First k' u' e)) = ProgramFirst p a b a' b' k u v k' u' e
-ProgramSides p q a b a' b' k u v (Err (Second k' u' e)) = ProgramSecond q a b a' b' k u v k' u' e
+ProgramSides p q a b a' b' k u v (Err (First at e)) = ProgramFirst p a b a' b' k u v at e
+ProgramSides p q a b a' b' k u v (Err (Second at e)) = ProgramSecond q a b a' b' k u v at e
 
 -- erase: the second side completed, then the first
 pub record EraseBoth (a b a' b' : FlashState) (k : ℕ) : Type 0 where
@@ -66,19 +66,19 @@ pub record EraseBoth (a b a' b' : FlashState) (k : ℕ) : Type 0 where
   pub first : EraseDone a k a'
 
 -- erase: the second side refused, and the first not called
-pub record EraseSecond {F : Type 0} (q : FaultGhosts F) (a b a' b' : FlashState) (k k' : ℕ) (u' : Option ℕ) (e : F) : Type 0 where
-  pub place : (k' ≡ k) × (u' ≡ None)
+pub record EraseSecond {F : Type 0} (q : FaultGhosts F) (a b a' b' : FlashState) (k : ℕ) (at : ℕ × Option ℕ) (e : F) : Type 0 where
+  pub place : at ≡ (k, None)
   pub second : EraseRefused q b k b' e
   pub first : a' ≡ a
 
 -- erase: the second side completed, and the first refused
-pub record EraseFirst {E : Type 0} (p : FaultGhosts E) (a b a' b' : FlashState) (k k' : ℕ) (u' : Option ℕ) (e : E) : Type 0 where
-  pub place : (k' ≡ k) × (u' ≡ None)
+pub record EraseFirst {E : Type 0} (p : FaultGhosts E) (a b a' b' : FlashState) (k : ℕ) (at : ℕ × Option ℕ) (e : E) : Type 0 where
+  pub place : at ≡ (k, None)
   pub second : EraseDone b k b'
   pub first : EraseRefused p a k a' e
 
 abbrev pub EraseSides : {E F : Type 0} → FaultGhosts E → FaultGhosts F → (a b a' b' : FlashState) → (k : ℕ) → Result (Unit {0}) (MirrorFault E F) → Type 0
 EraseSides p q a b a' b' k (Ok x) = EraseBoth a b a' b' k
 EraseSides p q a b a' b' k (Err (Own c)) = OwnRefusal c (erase_refusal (mirrored a b) k) k None a b a' b'
-EraseSides p q a b a' b' k (Err (First k' u' e)) = EraseFirst p a b a' b' k k' u' e
-EraseSides p q a b a' b' k (Err (Second k' u' e)) = EraseSecond q a b a' b' k k' u' e
+EraseSides p q a b a' b' k (Err (First at e)) = EraseFirst p a b a' b' k at e
+EraseSides p q a b a' b' k (Err (Second at e)) = EraseSecond q a b a' b' k at e

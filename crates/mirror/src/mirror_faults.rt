@@ -3,14 +3,14 @@ ghost use Rattle.std.specs.Prelude.{codes};
 ghost use Rattle.mirror.specs.MirrorFaults.{mirror_number, mirror_place};
 
 use flash::causes::Cause;
-use flash::faults::FlashFault;
+use flash::faults::{FlashFault, Place};
 
-// A side's fault stands behind the bank and unit as the mirror counts them.
+// A side's fault stands behind its place as the mirror counts it.
 #[derive(Clone, Copy, Drop)]
 pub enum MirrorFault<E, F> {
     Own(Cause),
-    First(usize, Option<usize>, E),
-    Second(usize, Option<usize>, F),
+    First(Place, E),
+    Second(Place, F),
 }
 
 impl<E: FlashFault, F: FlashFault> FlashFault for MirrorFault<E, F> {
@@ -23,8 +23,8 @@ impl<E: FlashFault, F: FlashFault> FlashFault for MirrorFault<E, F> {
     fn number(&self) -> u8 {
         match self {
             MirrorFault::Own(cause) => cause.number(),
-            MirrorFault::First(_, _, fault) => fault.number(),
-            MirrorFault::Second(_, _, fault) => fault.number(),
+            MirrorFault::First(_, fault) => fault.number(),
+            MirrorFault::Second(_, fault) => fault.number(),
         }
     }
 
@@ -32,11 +32,10 @@ impl<E: FlashFault, F: FlashFault> FlashFault for MirrorFault<E, F> {
         "mirror"
     }
 
-    fn place(&self) -> (usize, Option<usize>) {
+    fn place(&self) -> Place {
         match self {
             MirrorFault::Own(cause) => cause.place(),
-            MirrorFault::First(bank, unit, _) => (*bank, *unit),
-            MirrorFault::Second(bank, unit, _) => (*bank, *unit),
+            MirrorFault::First(place, _) | MirrorFault::Second(place, _) => *place,
         }
     }
 }

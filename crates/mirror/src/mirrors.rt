@@ -1,6 +1,5 @@
 // Two flashes of any kinds that hold the same.
 ghost use Rattle.std.specs.Prelude.{◌≡◌, min, ◌&&◌};
-ghost use Rattle.flash.specs.Causes.{cause_of};
 ghost use Rattle.flash.specs.FlashState.{flash_state};
 ghost use Rattle.flash.specs.Seen.{seen};
 ghost use Rattle.flash.specs.Calls.{Read, Program, Erase, PoweredUp};
@@ -32,15 +31,9 @@ fn is_on<F: Flash>(f: &F) -> bool
 {
     match f.read(0, 0) {
         Ok(_) => true,
+        // kept: of a fault of any kind only its number says that the flash is off.
         Err(e) => e.number() != 21,
     }
-}
-
-// A refusal of the mirror's own.
-fn own<E, F>(why: Why, bank: usize, unit: Option<usize>) -> MirrorFault<E, F>
-    ensures { result ≡ MirrorFault.Own (cause_of why bank unit) }
-{
-    MirrorFault::Own(Cause { why, bank, unit })
 }
 
 #[derive(Drop)]
@@ -74,26 +67,26 @@ impl<A: Flash, B: Flash> Mirror<A, B> {
     ) -> Result<(), MirrorFault<A::Fault, B::Fault>>
         ensures { ProgramSides A.Fault.FlashFault B.Fault.FlashFault (seen A.Flash self.old.first) (seen B.Flash self.old.second) (seen A.Flash self.new.first) (seen B.Flash self.new.second) bank unit value result }
     {
-        if let Err(e) = self.first.program(bank, unit, value) {
-            return Err(MirrorFault::First(bank, Some(unit), e));
-        }
-        if let Err(e) = self.second.program(bank, unit, value) {
-            return Err(MirrorFault::Second(bank, Some(unit), e));
-        }
-        Ok(())
+        let place = (bank, Some(unit));
+        self.first
+            .program(bank, unit, value)
+            .map_err(|e| MirrorFault::First(place, e))?;
+        self.second
+            .program(bank, unit, value)
+            .map_err(|e| MirrorFault::Second(place, e))
     }
 
     // Erases a bank of the second side, and of the first only if that completed.
     fn erase_sides(&mut self, bank: usize) -> Result<(), MirrorFault<A::Fault, B::Fault>>
         ensures { EraseSides A.Fault.FlashFault B.Fault.FlashFault (seen A.Flash self.old.first) (seen B.Flash self.old.second) (seen A.Flash self.new.first) (seen B.Flash self.new.second) bank result }
     {
-        if let Err(e) = self.second.erase(bank) {
-            return Err(MirrorFault::Second(bank, None, e));
-        }
-        if let Err(e) = self.first.erase(bank) {
-            return Err(MirrorFault::First(bank, None, e));
-        }
-        Ok(())
+        let place = (bank, None);
+        self.second
+            .erase(bank)
+            .map_err(|e| MirrorFault::Second(place, e))?;
+        self.first
+            .erase(bank)
+            .map_err(|e| MirrorFault::First(place, e))
     }
 }
 
@@ -120,24 +113,25 @@ impl<A: Flash, B: Flash> Flash for Mirror<A, B> {
             .min(self.second.units_per_bank())
     }
 
+    // kept: each kind of flash asks its own state whether it is on and has the place; one function of all five values is no plainer.
     fn read(&self, bank: usize, unit: usize) -> Result<Unit, MirrorFault<A::Fault, B::Fault>>
         ensures reads { Read (mirror_fault A.Fault.FlashFault B.Fault.FlashFault) (mirrored (seen A.Flash self.now.first) (seen B.Flash self.now.second)) bank unit result }
         ensures sides { ReadSides (seen A.Flash self.now.first) (seen B.Flash self.now.second) bank unit result }
     {
         if !is_on(&self.first) || !is_on(&self.second) {
-            return Err(own(Why::Off, bank, Some(unit)));
+            return Err(MirrorFault::Own(Cause::new(Why::Off, bank, Some(unit))));
         }
         if bank >= self.banks() || unit >= self.units_per_bank() {
-            return Err(own(Why::Missing, bank, Some(unit)));
+            return Err(MirrorFault::Own(Cause::new(Why::Missing, bank, Some(unit))));
         }
-        let a = match self.first.read(bank, unit) {
-            Ok(x) => x,
-            Err(e) => return Err(MirrorFault::First(bank, Some(unit), e)),
-        };
-        let b = match self.second.read(bank, unit) {
-            Ok(x) => x,
-            Err(e) => return Err(MirrorFault::Second(bank, Some(unit), e)),
-        };
+        let a = self
+            .first
+            .read(bank, unit)
+            .map_err(|e| MirrorFault::First((bank, Some(unit)), e))?;
+        let b = self
+            .second
+            .read(bank, unit)
+            .map_err(|e| MirrorFault::Second((bank, Some(unit)), e))?;
         Ok(mix(a, b))
     }
 
@@ -153,7 +147,7 @@ impl<A: Flash, B: Flash> Flash for Mirror<A, B> {
     {
         match self.read(bank, unit)? {
             Unit::Blank => self.program_sides(bank, unit, value),
-            _ => Err(own(Why::NotBlank, bank, Some(unit))),
+            _ => Err(MirrorFault::Own(Cause::new(Why::NotBlank, bank, Some(unit)))),
         }
     }
 
@@ -163,10 +157,10 @@ impl<A: Flash, B: Flash> Flash for Mirror<A, B> {
         ensures cuts { SideCuts A.Fault.FlashFault B.Fault.FlashFault result }
     {
         if !is_on(&self.first) || !is_on(&self.second) {
-            return Err(own(Why::Off, bank, None));
+            return Err(MirrorFault::Own(Cause::new(Why::Off, bank, None)));
         }
         if bank >= self.banks() {
-            return Err(own(Why::Missing, bank, None));
+            return Err(MirrorFault::Own(Cause::new(Why::Missing, bank, None)));
         }
         self.erase_sides(bank)
     }

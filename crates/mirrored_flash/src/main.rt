@@ -1,7 +1,7 @@
 // A mirror of a byte image and a simulator: a program is cut in the middle, and the mirror still holds a value or a blank unit.
 #![tactic(auto)]
 
-use anyhow::anyhow;
+use anyhow::Context;
 use flash::faults::FlashFault;
 use flash::interface::Flash;
 use flash::units::Unit;
@@ -17,21 +17,16 @@ const UNITS: usize = 4;
 
 fn blank_image(heap: Global) -> anyhow::Result<Image> {
     let mut bytes = HEADER.to_vec(heap)?;
-    for _ in 0..UNITS * 9 {
-        bytes.push(0)?;
-    }
-    match Image::open(bytes) {
-        Ok(image) => Ok(image),
-        Err(_) => Err(anyhow!("no image")),
-    }
+    bytes.resize(HEADER.len() + UNITS * 9, 0)?;
+    Image::open(bytes).ok().context("no image")
 }
 
 // A simulator whose first power-up completes two writes and whose cut leaves its unit unreadable.
 fn short_simulator(heap: Global) -> anyhow::Result<Simulator> {
     let table = vec![in heap; Unit::Blank; UNITS]?;
-    let Ok(mut simulator) = Simulator::new(1, UNITS, table) else {
-        return Err(anyhow!("no simulator"));
-    };
+    let mut simulator = Simulator::new(1, UNITS, table)
+        .ok()
+        .context("no simulator")?;
     let _ = simulator.add_entry(Entry {
         charge: 2,
         residue: 2,
@@ -85,8 +80,8 @@ fn run(rt: &HostRuntime) -> anyhow::Result<()> {
     program(rt, &mut mirror, 0, 7)?;
     println!(rt; "power up")?;
     mirror.power_up();
-    for unit in 0..3usize {
-        program(rt, &mut mirror, unit, unit as u64 + 7)?;
+    for (unit, value) in (7..10).enumerate() {
+        program(rt, &mut mirror, unit, value)?;
     }
     show(rt, "the mirror", &mirror, 2)?;
     println!(rt; "power up")?;

@@ -1,14 +1,11 @@
 -- What the simulator's cuts leave. Assumes nothing.
-use Rattle.std.specs.Prelude.{◌≡◌, ℕ, ◌+◌, ◌<◌, ◌≤◌, Bool, true, false, cond, List, [], ◌∷◌, ◌++◌, length, get_or, take, drop, replicate, ◌==◌, slice_index_or, slice_set, refl}
-use Rattle.std.proofs.Common.{sym, ap, ◌∙◌, inl, inr, arith, add-zero}
+use Rattle.std.specs.Prelude.{◌≡◌, ℕ, zero, suc, ◌+◌, ◌<◌, Bool, true, false, cond, List, [], ◌∷◌, ◌++◌, length, take, drop, ◌==◌, slice_index_or, slice_set, refl}
+use Rattle.std.proofs.Common.{ap, ◌∙◌, inl, inr, arith, add-zero}
 use Rattle.std.specs.List.{AllZip}
-use Rattle.std.proofs.lemmas.List.{length-replicate, replicate_more, length-take-le, length-drop, length-take, get_or-take, get_or-drop, take_more, take_all}
 use Rattle.flash.specs.declared.units.Unit.{Unit as Cell}
 use Rattle.flash.specs.declared.units.Unit.TheVariants.{Blank, Programmed, Unreadable}
 use Rattle.flash.specs.Calls.{ProgramResidue, EraseResidue}
-use Rattle.simulator.specs.Tables.{over}
-use Rattle.simulator.specs.Residues.{program_residue, pattern_bits, unit_residue, residue_from, bank_residue}
-use Rattle.simulator.proofs.Rows.{over_step, over_past}
+use Rattle.simulator.specs.Residues.{program_residue, pattern_bits, unit_residue, residue_from}
 
 program_residue_by : (p q : Bool) (v : ℕ) → ProgramResidue v (cond p Blank (cond q (Programmed v) Unreadable))
 program_residue_by true q v = inl refl
@@ -31,31 +28,21 @@ pub residue_length : (p u : ℕ) (xs : List Cell) → length (residue_from p u x
 residue_length p u [] = refl
 residue_length p u (x ∷ xs) = omega (arith, residue_length p (u + 1) xs)
 
-residue_push : (p u : ℕ) (xs : List Cell) (x : Cell) → residue_from p u (xs ++ (x ∷ [])) ≡ residue_from p u xs ++ (unit_residue p (u + length xs) x ∷ [])
-residue_push p u [] x = ap (λ k. unit_residue p k x ∷ []) (sym (add-zero u))
-residue_push p u (y ∷ xs) x =
-    let far : (u + 1) + length xs ≡ u + length (y ∷ xs) = omega arith in
-    ap (λ z. unit_residue p u y ∷ z) (residue_push p (u + 1) xs x ∙ ap (λ k. residue_from p (u + 1) xs ++ (unit_residue p k x ∷ [])) far)
+-- a bank of which a cut erase has left u units so far, the first of them unit k
+abbrev pub cut_before : ℕ → ℕ → ℕ → List Cell → List Cell
+cut_before p k u xs = residue_from p k (take u xs) ++ drop u xs
 
-pub blank_step : (xs : List Cell) (from u : ℕ) → from + u < length xs → slice_set (over xs from (replicate u Blank)) (from + u) Blank ≡ over xs from (replicate (u + 1) Blank)
-blank_step xs from u h = over_step xs from (replicate u Blank) Blank u (length-replicate u Blank) h ∙ ap (over xs from) (replicate_more u Blank)
+cut_next : (p k u : ℕ) (xs : List Cell) (d : Cell) → u < length xs → slice_set (cut_before p k u xs) u (unit_residue p (k + u) (slice_index_or (cut_before p k u xs) u d)) ≡ cut_before p k (suc u) xs
+cut_next p k zero [] d h = absurd (omega arith)
+cut_next p k (suc u) [] d h = absurd (omega arith)
+cut_next p k zero (x ∷ xs) d h = ap (λ j. unit_residue p j x ∷ xs) (add-zero k)
+cut_next p k (suc u) (x ∷ xs) d h =
+    let far : k + suc u ≡ (k + 1) + u = omega arith in
+    ap (λ z. unit_residue p k x ∷ z) (ap (λ j. slice_set (cut_before p (k + 1) u xs) u (unit_residue p j (slice_index_or (cut_before p (k + 1) u xs) u d))) far ∙ cut_next p (k + 1) u xs d (omega arith))
 
-module _ (xs : List Cell) (from n p : ℕ) (room : from + n ≤ length xs) where
-  part_length : length (take n (drop from xs)) ≡ n
-  part_length = simp (length-take, length-drop) (omega arith)
-
-  pub cut_step : (u : ℕ) (d x : Cell) → u < n → x ≡ slice_index_or (over xs from (residue_from p 0 (take u (take n (drop from xs))))) (from + u) d → slice_set (over xs from (residue_from p 0 (take u (take n (drop from xs))))) (from + u) (unit_residue p u x) ≡ over xs from (residue_from p 0 (take (u + 1) (take n (drop from xs))))
-  cut_step u d x h e =
-      let part = take n (drop from xs) in
-      let size = part_length in
-      let front : length (take u part) ≡ u = length-take-le u part (omega arith) in
-      let done : length (residue_from p 0 (take u part)) ≡ u = residue_length p 0 (take u part) ∙ front in
-      let old : x ≡ get_or part u d = e ∙ over_past xs from (residue_from p 0 (take u part)) (from + u) d (omega arith) (omega arith) ∙ sym (get_or-take n (drop from xs) u d h ∙ get_or-drop from xs u d) in
-      let in' : u < length part = omega arith in
-      let more : take u part ++ (x ∷ []) ≡ take (u + 1) part = ap (λ y. take u part ++ (y ∷ [])) old ∙ sym (take_more part u d in') in
-      let at : 0 + length (take u part) ≡ u = omega arith in
-      let pushed : residue_from p 0 (take u part) ++ (unit_residue p u x ∷ []) ≡ residue_from p 0 (take (u + 1) part) = sym (residue_push p 0 (take u part) x ∙ ap (λ k. residue_from p 0 (take u part) ++ (unit_residue p k x ∷ [])) at) ∙ ap (residue_from p 0) more in
-      over_step xs from (residue_from p 0 (take u part)) (unit_residue p u x) u done (omega arith) ∙ ap (over xs from) pushed
-
-  pub cut_all : over xs from (residue_from p 0 (take n (take n (drop from xs)))) ≡ over xs from (bank_residue p (take n (drop from xs)))
-  cut_all = let size = part_length in ap (λ z. over xs from (residue_from p 0 z)) (take_all n (take n (drop from xs)) (omega arith))
+-- the next unit
+pub cut_step : (p u : ℕ) (xs : List Cell) (d : Cell) → u < length xs → slice_set (cut_before p 0 u xs) u (unit_residue p u (slice_index_or (cut_before p 0 u xs) u d)) ≡ cut_before p 0 (u + 1) xs
+cut_step p u xs d h =
+    let at : u ≡ 0 + u = omega arith in
+    let next : suc u ≡ u + 1 = omega arith in
+    ap (λ j. slice_set (cut_before p 0 u xs) u (unit_residue p j (slice_index_or (cut_before p 0 u xs) u d))) at ∙ cut_next p 0 u xs d h ∙ ap (λ j. cut_before p 0 j xs) next

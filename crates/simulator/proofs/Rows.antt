@@ -1,7 +1,7 @@
 -- A flat table as rows. Assumes nothing.
-use Rattle.std.specs.Prelude.{◌≡◌, ℕ, zero, suc, ◌+◌, ◌*◌, ◌<◌, ◌≤◌, List, [], ◌∷◌, ◌++◌, length, take, drop, set, slice_index_or, slice_set, refl}
-use Rattle.std.proofs.Common.{sym, ap, ◌∙◌, subst, append_assoc, arith, add_assoc, add-zero, zero-add, suc-add, zero-mul, suc-mul, rules}
-use Rattle.std.proofs.lemmas.List.{places, take-append-drop, length-take-le, length-drop, length-append, length-take, take_at, drop_at, drop_more, set_at, take-set-le, drop-set-lt, drop-set-add, append-nil, drop-drop, drop_all}
+use Rattle.std.specs.Prelude.{◌≡◌, ℕ, zero, suc, ◌+◌, ◌*◌, ◌<◌, ◌≤◌, List, [], ◌∷◌, ◌++◌, length, take, drop, slice_index_or, slice_set, refl}
+use Rattle.std.proofs.Common.{sym, ap, ◌∙◌, arith, zero-add, suc-add, zero-mul, suc-mul}
+use Rattle.std.proofs.lemmas.List.{take-append-drop, length-take-le, length-drop, length-append, length-take, take_at, drop_at, take-set-le, drop-set-lt, drop-set-add, drop-drop}
 use Rattle.simulator.specs.Tables.{rows, over}
 
 module _ {X : Type 0} where
@@ -11,22 +11,6 @@ module _ {X : Type 0} where
   rows_row (suc n) w (suc b) xs h =
       let far : w + b * w ≡ suc b * w = let e = suc-mul b w in omega arith in
       rows_row n w b (drop w xs) (omega arith) ∙ ap (take w) (drop-drop (b * w) w xs ∙ ap (λ k. drop k xs) far)
-
-  pub over_none : (xs : List X) (u : ℕ) → xs ≡ over xs u []
-  over_none xs u = rw add-zero (sym (take-append-drop u xs))
-
-  pub over_more : (xs : List X) (u : ℕ) (ys : List X) (y : X) → u + length ys < length xs → slice_set (over xs u ys) (u + length ys) y ≡ over xs u (ys ++ (y ∷ []))
-  over_more xs u ys y h =
-      let next = drop_more xs (u + length ys) y h in
-      let front = take u xs ++ ys in
-      let rest = drop ((u + length ys) + 1) xs in
-      let size : length front ≡ u + length ys = simp (length-append, length-take) (omega arith) in
-      let opened : over xs u ys ≡ front ++ (slice_index_or xs (u + length ys) y ∷ rest) = ap (λ z. take u xs ++ (ys ++ z)) next ∙ sym (append_assoc (take u xs) ys _) in
-      let closed : front ++ (y ∷ rest) ≡ over xs u (ys ++ (y ∷ [])) = simp (length-append, append_assoc, add_assoc) in
-      ap (λ z. set z (u + length ys) y) opened ∙ set_at front _ rest y (u + length ys) size ∙ closed
-
-  pub over_past : (xs : List X) (u : ℕ) (ys : List X) (k : ℕ) (d : X) → u + length ys ≤ k → u + length ys ≤ length xs → slice_index_or (over xs u ys) k d ≡ slice_index_or xs k d
-  over_past xs u ys k d l h = search (rules, places)
 
   pub over_length : (xs : List X) (u : ℕ) (ys : List X) → u + length ys ≤ length xs → length (over xs u ys) ≡ length xs
   over_length xs u ys h = simp (length-append, length-take, length-drop) (omega arith)
@@ -68,12 +52,3 @@ module _ {X : Type 0} where
       ∙ ap (λ z. z ∷ rows n w (drop w (slice_set xs (w + (b * w + u)) x))) (take-set-le w xs (w + (b * w + u)) x (omega arith))
       ∙ ap (λ z. take w xs ∷ rows n w z) (drop-set-add w xs (b * w + u) x)
       ∙ ap (λ z. take w xs ∷ z) (rows_set n w b u (drop w xs) x (omega arith) m)
-
-  -- one place more
-  pub over_step : (xs : List X) (u : ℕ) (ys : List X) (y : X) (k : ℕ) → length ys ≡ k → u + k < length xs → slice_set (over xs u ys) (u + k) y ≡ over xs u (ys ++ (y ∷ []))
-  over_step xs u ys y k e h =
-      let P : ℕ → Type 0 = λ n. u + n < length xs → slice_set (over xs u ys) (u + n) y ≡ over xs u (ys ++ (y ∷ [])) in
-      subst P e (over_more xs u ys y) h
-
-  pub over_whole : (xs ys : List X) → length ys ≡ length xs → over xs 0 ys ≡ ys
-  over_whole xs ys e = ap (λ z. ys ++ z) (drop_all (0 + length ys) xs (omega arith)) ∙ append-nil ys

@@ -22,7 +22,7 @@ pub record SimulatorState : Type 0 where
   pub position : ℕ
 
 abbrev pub state_of : Simulator → SimulatorState
-state_of s = record { banks = s.banks; width = s.width; table = vec_items s.table; on = s.on; charge = s.charge; residue = s.residue; pattern = s.pattern; plan = take s.planned s.plan; position = s.position }
+state_of s = record { banks = s.banks; width = s.width; table = vec_items s.table; on = s.on; charge = s.entry.charge; residue = s.entry.residue; pattern = s.entry.pattern; plan = s.plan.items; position = s.position }
 
 -- the simulator as a flash
 abbrev pub flash_of : SimulatorState → FlashState

@@ -12,6 +12,7 @@ pub enum ShapeFault {
 }
 
 impl ShapeFault {
+    // kept: a match; as discriminants of the enum a number given twice would not compile, and the edit that gives one twice could show nothing
     pub fn number(&self) -> u8
         ensures { result ≡ shape_number self.now }
     {

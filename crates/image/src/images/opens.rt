@@ -19,10 +19,10 @@ impl Image {
         ensures refusal { MatchResult result (λ _. open_refusal bytes.items ≡ 0) (λ e. open_number e.fault ≡ open_refusal bytes.items) }
         ensures held { MatchResult result (λ m. image_bytes m ≡ bytes.items) (λ e. e.bytes ≡ bytes) }
     {
-        if let Err(fault) = check_image(bytes.as_slice()) {
-            return Err(NotOpened { fault, bytes });
+        match check_image(&bytes) {
+            Ok(()) => Ok(Image { bytes }),
+            Err(fault) => Err(NotOpened { fault, bytes }),
         }
-        Ok(Image { bytes })
     }
 
     // The buffer as the calls left it; it can be opened again.

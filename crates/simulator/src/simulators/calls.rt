@@ -1,52 +1,50 @@
 // The simulator is a flash.
-ghost use Rattle.std.specs.Prelude.{◌≡◌, ◌<◌};
-ghost use Rattle.flash.specs.Causes.{cause_of};
+ghost use Rattle.std.specs.Prelude.{◌≡◌, ◌+◌, ◌*◌, ◌<◌, ◌≤◌, vec_len};
 ghost use Rattle.flash.specs.Calls.{Program, Erase, PoweredUp};
-ghost use Rattle.simulator.specs.contracts.simulator_faults.SimulatorFaultFlashFault.TheImpl.{ghosts as fault_ghosts};
 ghost use Rattle.simulator.specs.Tables.{rows};
 ghost use Rattle.simulator.specs.SimulatorStates.{state_of, flash_of, with_bank_blank, with_bank_cut, paid, turned_off, next_entry, after_power_up, after_program, after_erase};
 ghost use Rattle.simulator.specs.Formed.{table_formed, items, full_of};
 
-use crate::residues::{cut_erase, make_blank, program_residue};
+use crate::residues::{cut_erase, program_residue};
 use crate::simulator_faults::SimulatorFault;
 use crate::simulators::{Entry, Simulator};
-use flash::causes::{Cause, Why};
+use flash::causes::Why;
+use flash::faults::FlashFault;
 use flash::interface::Flash;
 use flash::units::Unit;
-
-// A fault of the simulator.
-fn fault(why: Why, bank: usize, unit: Option<usize>) -> SimulatorFault
-    ensures { result.cause ≡ cause_of why bank unit }
-{
-    SimulatorFault {
-        cause: Cause { why, bank, unit },
-    }
-}
+use std::ops::Range;
 
 impl Simulator {
     // The entry that the next power-up takes.
     fn next_entry(&self) -> Entry
         ensures { result ≡ next_entry (state_of self.now) }
     {
-        if self.position < self.planned {
-            self.plan[self.position]
-        } else {
-            Entry {
-                charge: u32::MAX,
-                residue: 2,
-                pattern: 0,
-            }
-        }
+        self.plan.get(self.position).copied().unwrap_or(Entry {
+            charge: u32::MAX,
+            residue: 2,
+            pattern: 0,
+        })
     }
 
+    // Where the units of a bank stand in the table.
+    fn units_of(&self, bank: usize) -> Range<usize>
+        requires { bank < self.now.banks }
+        ensures start { result.start ≡ bank * self.now.width }
+        ensures end { result.end ≡ bank * self.now.width + self.now.width }
+        ensures inside { result.end ≤ vec_len self.now.table }
+    {
+        let start = bank * self.width;
+        start..start + self.width
+    }
+
+    // kept: two methods over `units_of`, since each says what it makes of the whole state.
     // Makes all units of a bank blank.
     fn blank_bank(&mut self, bank: usize)
         requires { bank < self.old.banks }
         ensures { state_of self.new ≡ with_bank_blank (state_of self.old) bank }
     {
-        let from = bank * self.width;
-        let count = self.width;
-        make_blank(self.table.as_mut_slice(), from, count);
+        let units = self.units_of(bank);
+        self.table[units].fill(Unit::Blank);
     }
 
     // Leaves the units of a bank as a cut erase does.
@@ -54,18 +52,16 @@ impl Simulator {
         requires { bank < self.old.banks }
         ensures { state_of self.new ≡ with_bank_cut (state_of self.old) bank }
     {
-        let from = bank * self.width;
-        let count = self.width;
-        let pattern = self.pattern;
-        cut_erase(self.table.as_mut_slice(), from, count, pattern);
+        let units = self.units_of(bank);
+        cut_erase(&mut self.table[units], self.entry.pattern);
     }
 
     // A completed write costs one.
     fn pay(&mut self)
-        requires { 0 < self.old.charge }
+        requires { 0 < self.old.entry.charge }
         ensures { state_of self.new ≡ paid (state_of self.old) }
     {
-        self.charge -= 1;
+        self.entry.charge -= 1;
     }
 
     // A cut turns the flash off.
@@ -85,9 +81,9 @@ impl Flash for Simulator {
 
     ghost power = { λ s. s.on };
 
-    ghost charge = { λ s. s.charge };
+    ghost charge = { λ s. s.entry.charge };
 
-    ghost formed = { λ s. table_formed s.banks s.width (items s) s.on s.charge (full_of s) s.shape.3 s.fits s.values };
+    ghost formed = { λ s. table_formed s.banks s.width (items s) s.on s.entry.charge (full_of s) s.shape.3 s.fits s.values };
 
     fn banks(&self) -> usize {
         self.banks
@@ -97,29 +93,29 @@ impl Flash for Simulator {
         self.width
     }
 
+    // kept: each kind of flash asks its own state whether it is on and has the place; one function of all five values is no plainer.
     fn read(&self, bank: usize, unit: usize) -> Result<Unit, SimulatorFault> {
         if !self.on {
-            return Err(fault(Why::Off, bank, Some(unit)));
+            return Err(SimulatorFault::new(Why::Off, bank, Some(unit)));
         }
         if bank >= self.banks || unit >= self.width {
-            return Err(fault(Why::Missing, bank, Some(unit)));
+            return Err(SimulatorFault::new(Why::Missing, bank, Some(unit)));
         }
         Ok(self.table[bank * self.width + unit])
     }
 
     fn program(&mut self, bank: usize, unit: usize, value: u64) -> Result<(), SimulatorFault>
-        ensures programs { Program fault_ghosts (flash_of (state_of self.old)) bank unit value (flash_of (state_of self.new)) result }
+        ensures programs { Program ⟦<SimulatorFault as FlashFault>⟧ (flash_of (state_of self.old)) bank unit value (flash_of (state_of self.new)) result }
         ensures state { state_of self.new ≡ after_program (state_of self.old) bank unit value }
     {
-        match self.read(bank, unit)? {
-            Unit::Blank => {}
-            _ => return Err(fault(Why::NotBlank, bank, Some(unit))),
+        if self.read(bank, unit)? != Unit::Blank {
+            return Err(SimulatorFault::new(Why::NotBlank, bank, Some(unit)));
         }
         let at = bank * self.width + unit;
-        if self.charge == 0 {
-            self.table[at] = program_residue(self.residue, value);
+        if self.entry.charge == 0 {
+            self.table[at] = program_residue(self.entry.residue, value);
             self.turn_off();
-            return Err(fault(Why::Cut, bank, Some(unit)));
+            return Err(SimulatorFault::new(Why::Cut, bank, Some(unit)));
         }
         self.table[at] = Unit::Programmed(value);
         self.pay();
@@ -127,19 +123,19 @@ impl Flash for Simulator {
     }
 
     fn erase(&mut self, bank: usize) -> Result<(), SimulatorFault>
-        ensures erases { Erase fault_ghosts (flash_of (state_of self.old)) bank (flash_of (state_of self.new)) result }
+        ensures erases { Erase ⟦<SimulatorFault as FlashFault>⟧ (flash_of (state_of self.old)) bank (flash_of (state_of self.new)) result }
         ensures state { state_of self.new ≡ after_erase (state_of self.old) bank }
     {
         if !self.on {
-            return Err(fault(Why::Off, bank, None));
+            return Err(SimulatorFault::new(Why::Off, bank, None));
         }
         if bank >= self.banks {
-            return Err(fault(Why::Missing, bank, None));
+            return Err(SimulatorFault::new(Why::Missing, bank, None));
         }
-        if self.charge == 0 {
+        if self.entry.charge == 0 {
             self.cut_bank(bank);
             self.turn_off();
-            return Err(fault(Why::Cut, bank, None));
+            return Err(SimulatorFault::new(Why::Cut, bank, None));
         }
         self.blank_bank(bank);
         self.pay();
@@ -150,11 +146,10 @@ impl Flash for Simulator {
         ensures powers { PoweredUp (flash_of (state_of self.old)) (flash_of (state_of self.new)) }
         ensures state { state_of self.new ≡ after_power_up (state_of self.old) }
     {
-        let next = self.next_entry();
-        self.position = (self.position + 1).min(self.planned);
-        self.charge = next.charge;
-        self.residue = next.residue;
-        self.pattern = next.pattern;
+        self.entry = self.next_entry();
+        if self.position < self.plan.len() {
+            self.position += 1;
+        }
         self.on = true;
     }
 }

@@ -1,49 +1,42 @@
-use Rattle.std.proofs.Common.{◌≡◌, ◌<◌, true, length, sym, ap, ◌∙◌, arith}
-use Rattle.std.proofs.lemmas.Bool.{and_from}
+use Rattle.std.proofs.Common.{◌≡◌, true, false, sym, ap, ◌∙◌, arith}
 use Rattle.flash.specs.Seen.{seen}
 use Rattle.flash.specs.FlashState.{unit_at}
-use Rattle.flash.proofs.Refusals.{read_refusal_open}
-use Rattle.mirror.specs.Mirrored.{mixed, mirrored}
-use Rattle.mirror.proofs.Mirroring.{mirrored_unit_at, both_from}
+use Rattle.mirror.specs.Mirrored.{mixed}
+use Rattle.mirror.proofs.Mirroring.{mirror_accepts, mirror_holds, sides_accept, reads_ok, reads_unit}
 use Rattle.mirror.proofs.mirrors.MirrorFlash.read.Goals as goal
 
 -- a side does not refuse a read that the mirror lets through
-pub returns-in-Err : goal.returns-in-Err
-returns-in-Err g c =
+pub returns-in_err-a : goal.returns-in_err-a
+returns-in_err-a g c =
     let a = seen g.A.Flash c.args.self.now.first in
     let b = seen g.B.Flash c.args.self.now.second in
-    let on : (mirrored a b).on ≡ true = and_from a.on b.on (sym c.is_on.ensures ∙ c.if-not-is_on.false) (sym c.is_on-else-not-is_on.ensures ∙ c.if-not-is_on-2.false) in
-    let there : c.args.bank < length (mirrored a b).units = omega (arith, c.banks.ensures.count, c.if-bank-banks.false) in
-    let sides = both_from a b c.args.bank on there in
-    let wide : c.args.unit < a.width = omega (arith, c.units_per_bank.ensures.count, c.if-unit-units_per_bank.false) in
-    let none = read_refusal_open a c.args.bank c.args.unit sides.on_first sides.in_first wide in
-    let refused = c.in-Err.ensures.reads.refused in
-    absurd (omega (arith, none, refused))
+    let accepted = mirror_accepts a b c.args.bank c.args.unit (sym c.is_on.ensures ∙ c.if-not-is_on.false) (sym c.is_on-else-not-is_on.ensures ∙ c.if-not-is_on-2.false)
+    (omega (arith, c.banks.ensures.count, c.if-bank-banks.false)) (omega (arith, c.units_per_bank.ensures.count, c.if-unit-units_per_bank.false)) in
+    let sides = sides_accept a b c.args.bank c.args.unit accepted in
+    let read = reads_ok g.A.Fault.FlashFault a c.args.bank c.args.unit c.read.result c.read.ensures.reads sides.0 in
+    let none : false ≡ true = c.in_err-a.ensures.variant ∙ read in
+    cc none
 
-pub returns-in-Err-read : goal.returns-in-Err-read
-returns-in-Err-read g c =
+pub returns-in_err-b : goal.returns-in_err-b
+returns-in_err-b g c =
     let a = seen g.A.Flash c.args.self.now.first in
     let b = seen g.B.Flash c.args.self.now.second in
-    let on : (mirrored a b).on ≡ true = and_from a.on b.on (sym c.is_on.ensures ∙ c.if-not-is_on.false) (sym c.is_on-else-not-is_on.ensures ∙ c.if-not-is_on-2.false) in
-    let there : c.args.bank < length (mirrored a b).units = omega (arith, c.banks.ensures.count, c.if-bank-banks.false) in
-    let sides = both_from a b c.args.bank on there in
-    let wide : c.args.unit < b.width = omega (arith, c.units_per_bank.ensures.count, c.if-unit-units_per_bank.false) in
-    let none = read_refusal_open b c.args.bank c.args.unit sides.on_second sides.in_second wide in
-    let refused = c.in-Err-read.ensures.reads.refused in
-    absurd (omega (arith, none, refused))
+    let accepted = mirror_accepts a b c.args.bank c.args.unit (sym c.is_on.ensures ∙ c.if-not-is_on.false) (sym c.is_on-else-not-is_on.ensures ∙ c.if-not-is_on-2.false)
+    (omega (arith, c.banks.ensures.count, c.if-bank-banks.false)) (omega (arith, c.units_per_bank.ensures.count, c.if-unit-units_per_bank.false)) in
+    let sides = sides_accept a b c.args.bank c.args.unit accepted in
+    let read = reads_ok g.B.Fault.FlashFault b c.args.bank c.args.unit c.read-2.result c.read-2.ensures.reads sides.1 in
+    let none : false ≡ true = c.in_err-b.ensures.variant ∙ read in
+    cc none
 
 pub returns : goal.returns
 returns g c =
     let a = seen g.A.Flash c.args.self.now.first in
     let b = seen g.B.Flash c.args.self.now.second in
-    let on : (mirrored a b).on ≡ true = and_from a.on b.on (sym c.is_on.ensures ∙ c.if-not-is_on.false) (sym c.is_on-else-not-is_on.ensures ∙ c.if-not-is_on-2.false) in
-    let there : c.args.bank < length (mirrored a b).units = omega (arith, c.banks.ensures.count, c.if-bank-banks.false) in
-    let sides = both_from a b c.args.bank on there in
-    let wide : c.args.unit < (mirrored a b).width = omega (arith, c.units_per_bank.ensures.count, c.if-unit-units_per_bank.false) in
-    let wide-first : c.args.unit < a.width = omega (arith, wide) in
-    let wide-second : c.args.unit < b.width = omega (arith, wide) in
-    let held = mirrored_unit_at a b c.args.bank c.args.unit (g.met.A.Flash.formed c.args.self.now.first) (g.met.B.Flash.formed c.args.self.now.second) sides.in_first sides.in_second wide-first wide-second in
-    let x = c.in-Ok.ensures.reads.value in
-    let y = c.in-Ok-read.ensures.reads.value in
-    let both : c.mix.result ≡ mixed (unit_at a c.args.bank c.args.unit) (unit_at b c.args.bank c.args.unit) = c.mix.ensures ∙ ap (λ z. mixed z c.in-Ok-read.x) x ∙ ap (mixed _) y in
-    record { reads = record { accepted = read_refusal_open (mirrored a b) c.args.bank c.args.unit on there wide; value = both ∙ sym held }; sides = both }
+    let accepted = mirror_accepts a b c.args.bank c.args.unit (sym c.is_on.ensures ∙ c.if-not-is_on.false) (sym c.is_on-else-not-is_on.ensures ∙ c.if-not-is_on-2.false)
+    (omega (arith, c.banks.ensures.count, c.if-bank-banks.false)) (omega (arith, c.units_per_bank.ensures.count, c.if-unit-units_per_bank.false)) in
+    let sides = sides_accept a b c.args.bank c.args.unit accepted in
+    let x = reads_unit g.A.Fault.FlashFault a c.args.bank c.args.unit _ c.read.result c.map_err.result c.in_ok-a.a c.read.ensures.reads sides.0 c.map_err.ensures.cases c.in_ok-a.was in
+    let y = reads_unit g.B.Fault.FlashFault b c.args.bank c.args.unit _ c.read-2.result c.map_err-2.result c.in_ok-b.b c.read-2.ensures.reads sides.1 c.map_err-2.ensures.cases c.in_ok-b.was in
+    let held = mirror_holds a b c.args.bank c.args.unit (g.met.A.Flash.formed c.args.self.now.first) (g.met.B.Flash.formed c.args.self.now.second) accepted in
+    let mix : c.mix.result ≡ mixed (unit_at a c.args.bank c.args.unit) (unit_at b c.args.bank c.args.unit) = c.mix.ensures ∙ ap (λ z. mixed z c.in_ok-b.b) x ∙ ap (mixed _) y in
+    record { reads = record { accepted = accepted; value = mix ∙ sym held }; sides = mix }

@@ -1,88 +1,97 @@
-use Rattle.std.proofs.Common.{◌≡◌, ◌+◌, ◌*◌, ◌/◌, ◌<◌, true, length, sym, ap, ◌∙◌, arith}
+use Rattle.std.proofs.Common.{◌≡◌, ◌+◌, ◌-◌, ◌*◌, ◌/◌, ◌<◌, length, refl, sym, ap, ◌∙◌, arith}
 use Rattle.flash.specs.Calls.{erase_refusal}
 use Rattle.flash.specs.Causes.{cause_number, cause_place}
-use Rattle.flash.proofs.Keeping.{erase_cut, erase_done}
+use Rattle.flash.proofs.Keeping.{erase_cut, erase_done, erase_absent}
+use Rattle.flash.proofs.Refusals.{by_done, by_cut, by_same}
+use Rattle.std.specs.Prelude.{ℕ, List, ◌≤◌}
+use Rattle.image.specs.declared.images.Image.{Image}
+use Rattle.image.specs.declared.headers.Header.{Header}
+use Rattle.image.specs.ImageHeader.{header_of}
 use Rattle.image.specs.ImageOpening.{image_bytes}
 use Rattle.image.specs.ImageBytes.{with_zeros}
-use Rattle.image.specs.ImageStates.{image_on, image_charge, image_banks, image_width, unit_place, image_flash, paid, switched_off}
-use Rattle.flash.proofs.Refusals.{by_done, by_cut}
-use Rattle.image.proofs.ImageFlashes.{banks_count, in_bank, bank_room, width_few, erase_done_state, half_bank, half_allowed, erase_cut_state, erase_same_but, cut_erase_same_but}
-use Rattle.image.proofs.ImageCalls.{at_unit, opened_of, rewritten, still_opened}
+use Rattle.image.specs.ImageStates.{image_charge, image_banks, image_width, open_refusal, unit_place, image_flash, paid, switched_off}
+use Rattle.image.proofs.ImageNumbers.{zeros_same_but}
+use Rattle.image.proofs.ImageFlashes.{in_bank, bank_room, erase_done_state, half_bank, half_allowed, erase_cut_state}
+use Rattle.image.proofs.ImageCalls.{opened_of, zeros_over, still_opened, banks_read, width_read, charge_read, on_read, banks_shown}
 use Rattle.image.proofs.images.calls.ImageFlash.erase.Goals as goal
 
-pub place-at-requires : goal.place-at-requires
-place-at-requires c =
-    let m = c.args.self.now in
-    let bs = image_bytes m in
-    let o = opened_of m in
-    let there : c.args.bank < image_banks bs = omega (arith, c.if-bank-banks.false, c.banks.ensures.count, banks_count bs) in
-    let width = c.units_per_bank-width.ensures.count in
-    record { few = omega (arith, width, width_few bs o c.args.bank there); bank = omega (arith, o.few); unit = omega arith }
+pub returns-then-bank-header : goal.returns-then-bank-header
+returns-then-bank-header c =
+    let bs = image_bytes c.args.self.now in
+    let h = c.header-header.result in
+    let is = c.header-header.ensures in
+    let cause = c.new-then-bank-header.ensures in
+    let absent = erase_absent _ c.new-then-bank-header.result (image_flash bs) c.args.bank (on_read bs h is c.if-not-header.false) (omega (arith, banks_shown bs h is)) (ap cause_number cause) (ap cause_place cause) in
+    record { erases = absent; buffer = by_same (erase_refusal (image_flash bs) c.args.bank) _ _ bs (omega (arith, sym absent.why.number ∙ ap cause_number cause)) (omega (arith, sym absent.why.number ∙ ap cause_number cause)) }
 
-pub cut_erase-requires : goal.cut_erase-requires
-cut_erase-requires c =
-    let m = c.args.self.now in
-    let bs = image_bytes m in
-    let there : c.args.bank < image_banks bs = omega (arith, c.if-bank-banks.false, c.banks.ensures.count, banks_count bs) in
-    let width = c.units_per_bank-width.ensures.count in
-    let at = c.place-at.ensures ∙ ap (λ w. unit_place w c.args.bank 0) width in
-    record { header = omega (arith, at); within = omega (arith, at, width, bank_room bs (opened_of m) c.args.bank there, ap length c.as_mut_slice.ensures.value) }
+-- the units of a bank that is there: from i to within the buffer, and the bytes after zeros were written into f of them
+module _ (m : Image) (b : ℕ) (h : Header) (is : h ≡ header_of (image_bytes m)) (there : b < h.banks) (i : ℕ) (at : i ≡ unit_place (image_width (image_bytes m)) b 0) where
+  in_image : b < image_banks (image_bytes m)
+  in_image = omega (arith, banks_read (image_bytes m) h is)
+
+  bank_end : i + 9 * h.width ≤ length (image_bytes m)
+  bank_end = omega (arith, at, width_read (image_bytes m) h is, bank_room (image_bytes m) (opened_of m) b in_image)
+
+  zeros_opened : (n : ℕ) (left : List ℕ) → left ≡ with_zeros (image_bytes m) i n → open_refusal left ≡ 0
+  zeros_opened n left e =
+      still_opened m left (with_zeros (image_bytes m) i n) 8 (i + n) e (zeros_same_but (image_bytes m) i n 8 (i + n) (omega (arith, at)) (omega arith)) (omega arith)
+
+  zeros_placed : (f : ℕ → ℕ) → with_zeros (image_bytes m) i (9 * f h.width) ≡ with_zeros (image_bytes m) (unit_place (image_width (image_bytes m)) b 0) (9 * f (image_width (image_bytes m)))
+  zeros_placed f =
+      ap (λ k. with_zeros (image_bytes m) k (9 * f h.width)) at ∙ ap (λ w. with_zeros (image_bytes m) (unit_place (image_width (image_bytes m)) b 0) (9 * f w)) (width_read (image_bytes m) h is)
 
 pub invariant_of-self : goal.invariant_of-self
 invariant_of-self c =
     let m = c.args.self.now in
-    let bs = image_bytes m in
-    let i = unit_place (image_width bs) c.args.bank 0 in
-    let n = 9 * (image_width bs / 2) in
-    let left = at_unit (λ z k w. switched_off (with_zeros z k (9 * (w / 2)))) c.as_mut_slice.result.now bs c.cut_erase.new.bytes c.place-at.result c.units_per_bank-width.result c.args.bank 0 c.cut_erase.ensures c.as_mut_slice.ensures.value c.place-at.ensures c.units_per_bank-width.ensures.count in
-    record { opened = still_opened m c.cut_erase.new.bytes (switched_off (with_zeros bs i n)) (i + n) left (cut_erase_same_but bs i (omega arith) n) }
+    let h = c.header-header.result in
+    let is = c.header-header.ensures in
+    let i = c.place-at.result in
+    let at = c.place-at.ensures.place in
+    let room = bank_end m c.args.bank h is c.if-bank-header.false i at in
+    record { opened = zeros_opened m c.args.bank h is c.if-bank-header.false i at _ _ (zeros_over m.bytes c.deref_mut.result.now c.fill.new.self i _ _ c.deref_mut.ensures.value refl (omega arith) (c.fill.ensures.after (λ y e. e))) }
 
-pub returns-then-charge_of-eq0 : goal.returns-then-charge_of-eq0
-returns-then-charge_of-eq0 c =
+pub returns-then-header-eq0 : goal.returns-then-header-eq0
+returns-then-header-eq0 c =
     let m = c.args.self.now in
     let bs = image_bytes m in
-    let i = unit_place (image_width bs) c.args.bank 0 in
-    let n = 9 * (image_width bs / 2) in
-    let there : c.args.bank < image_banks bs = omega (arith, c.if-bank-banks.false, c.banks.ensures.count, banks_count bs) in
-    let on : image_on bs ≡ true = sym (ap image_on c.as_slice.ensures.value) ∙ sym c.is_on.ensures ∙ c.if-not-is_on.false in
-    let left = at_unit (λ z k w. switched_off (with_zeros z k (9 * (w / 2)))) c.as_mut_slice.result.now bs c.cut_erase.new.bytes c.place-at.result c.units_per_bank-width.result c.args.bank 0 c.cut_erase.ensures c.as_mut_slice.ensures.value c.place-at.ensures c.units_per_bank-width.ensures.count in
-    let after = rewritten m c.cut_erase.new.bytes (switched_off (with_zeros bs i n)) 8 (i + n) left (cut_erase_same_but bs i (omega arith) n) in
-    let empty : image_charge bs ≡ 0 = sym (c.charge_of.ensures ∙ ap image_charge c.as_slice-2.ensures.value) ∙ c.if-charge_of-eq0.true in
-    let cause = c.fault-then-charge_of-eq0.ensures in
+    let h = c.header-header.result in
+    let is = c.header-header.ensures in
+    let i = c.place-at.result in
+    let at = c.place-at.ensures.place in
+    let n = 9 * (h.width / 2) in
+    let there = in_image m c.args.bank h is c.if-bank-header.false i at in
+    let room : i + n ≤ length bs = omega (arith, bank_end m c.args.bank h is c.if-bank-header.false i at) in
+    let filled = zeros_over m.bytes c.deref_mut.result.now c.fill.new.self i (i + n - i) n c.deref_mut.ensures.value (omega arith) room (c.fill.ensures.after (λ y e. e)) in
+    let after = c.switch_off.ensures ∙ ap switched_off (filled ∙ zeros_placed m c.args.bank h is c.if-bank-header.false i at (λ w. w / 2)) in
+    let cause = c.new-then-header-eq0.ensures in
     let o = opened_of m in
-    let cut = erase_cut (image_flash bs) c.args.bank on (in_bank bs c.args.bank there) _ c.fault-then-charge_of-eq0.result _ empty (ap cause_number cause) (ap cause_place cause) (half_bank bs o c.args.bank there) (half_allowed bs o c.args.bank there) (ap image_flash after ∙ erase_cut_state bs o c.args.bank there) in
+    let cut = erase_cut (image_flash bs) c.args.bank (on_read bs h is c.if-not-header.false) (in_bank bs c.args.bank there) _ c.new-then-header-eq0.result _ (sym (charge_read bs h is) ∙ c.if-header-eq0.true) (ap cause_number cause) (ap cause_place cause) (half_bank bs o c.args.bank there) (half_allowed bs o c.args.bank there) (ap image_flash after ∙ erase_cut_state bs o c.args.bank there) in
     record { erases = cut; buffer = after ∙ by_cut (erase_refusal (image_flash bs) c.args.bank) _ _ bs (sym cut.why.number ∙ ap cause_number cause) }
-
-pub erase_units-requires : goal.erase_units-requires
-erase_units-requires c =
-    let m = c.args.self.now in
-    let bs = image_bytes m in
-    let there : c.args.bank < image_banks bs = omega (arith, c.if-bank-banks.false, c.banks.ensures.count, banks_count bs) in
-    let width = c.units_per_bank-width.ensures.count in
-    let at = c.place-at.ensures ∙ ap (λ w. unit_place w c.args.bank 0) width in
-    record { header = omega (arith, at); within = omega (arith, at, width, bank_room bs (opened_of m) c.args.bank there, ap length c.as_mut_slice-2.ensures.value) }
 
 pub invariant_of-self-2 : goal.invariant_of-self-2
 invariant_of-self-2 c =
     let m = c.args.self.now in
-    let bs = image_bytes m in
-    let i = unit_place (image_width bs) c.args.bank 0 in
-    let n = 9 * image_width bs in
-    let left = at_unit (λ z k w. paid (with_zeros z k (9 * w))) c.as_mut_slice-2.result.now bs c.erase_units.new.bytes c.place-at.result c.units_per_bank-width.result c.args.bank 0 c.erase_units.ensures c.as_mut_slice-2.ensures.value c.place-at.ensures c.units_per_bank-width.ensures.count in
-    record { opened = still_opened m c.erase_units.new.bytes (paid (with_zeros bs i n)) (i + n) left (erase_same_but bs i (omega arith) n) }
+    let h = c.header-header.result in
+    let is = c.header-header.ensures in
+    let i = c.place-at.result in
+    let at = c.place-at.ensures.place in
+    let room = bank_end m c.args.bank h is c.if-bank-header.false i at in
+    record { opened = zeros_opened m c.args.bank h is c.if-bank-header.false i at _ _ (zeros_over m.bytes c.deref_mut-2.result.now c.fill-2.new.self i _ _ c.deref_mut-2.ensures.value refl (omega arith) (c.fill-2.ensures.after (λ y e. e))) }
 
 pub returns : goal.returns
 returns c =
     let m = c.args.self.now in
     let bs = image_bytes m in
-    let i = unit_place (image_width bs) c.args.bank 0 in
-    let n = 9 * image_width bs in
-    let there : c.args.bank < image_banks bs = omega (arith, c.if-bank-banks.false, c.banks.ensures.count, banks_count bs) in
-    let on : image_on bs ≡ true = sym (ap image_on c.as_slice.ensures.value) ∙ sym c.is_on.ensures ∙ c.if-not-is_on.false in
-    let left = at_unit (λ z k w. paid (with_zeros z k (9 * w))) c.as_mut_slice-2.result.now bs c.erase_units.new.bytes c.place-at.result c.units_per_bank-width.result c.args.bank 0 c.erase_units.ensures c.as_mut_slice-2.ensures.value c.place-at.ensures c.units_per_bank-width.ensures.count in
-    let after = rewritten m c.erase_units.new.bytes (paid (with_zeros bs i n)) 8 (i + n) left (erase_same_but bs i (omega arith) n) in
-    let charge : c.charge_of.result ≡ image_charge bs = c.charge_of.ensures ∙ ap image_charge c.as_slice-2.ensures.value in
-    let some : 0 < image_charge bs = omega (arith, c.if-charge_of-eq0.false) in
+    let h = c.header-header.result in
+    let is = c.header-header.ensures in
+    let i = c.place-at.result in
+    let at = c.place-at.ensures.place in
+    let n = 9 * h.width in
+    let there = in_image m c.args.bank h is c.if-bank-header.false i at in
+    let room = bank_end m c.args.bank h is c.if-bank-header.false i at in
+    let filled = zeros_over m.bytes c.deref_mut-2.result.now c.fill-2.new.self i (i + n - i) n c.deref_mut-2.ensures.value (omega arith) room (c.fill-2.ensures.after (λ y e. e)) in
+    let after = c.pay.ensures ∙ ap paid (filled ∙ zeros_placed m c.args.bank h is c.if-bank-header.false i at (λ w. w)) in
+    let some : 0 < image_charge bs = omega (arith, charge_read bs h is, c.if-header-eq0.false) in
     let o = opened_of m in
-    let done = erase_done (image_flash bs) c.args.bank on (in_bank bs c.args.bank there) _ some (ap image_flash after ∙ erase_done_state bs o c.args.bank there) in
+    let done = erase_done (image_flash bs) c.args.bank (on_read bs h is c.if-not-header.false) (in_bank bs c.args.bank there) _ some (ap image_flash after ∙ erase_done_state bs o c.args.bank there) in
     record { erases = done; buffer = after ∙ by_done (erase_refusal (image_flash bs) c.args.bank) _ _ bs done.accepted }

@@ -13,8 +13,8 @@ pub returns-then-bank-self : goal.returns-then-bank-self
 returns-then-bank-self c =
     let s = c.args.self.now in
     let size = rows_length s.banks s.width (items s) in
-    let cause = c.fault-then-bank-self.ensures in
-    let none = erase_absent _ c.fault-then-bank-self.result (simulated s) c.args.bank c.if-not-self.false (omega (arith, size, c.if-bank-self.true)) (ap cause_number cause) (ap cause_place cause) in
+    let cause = c.new-then-bank-self.ensures in
+    let none = erase_absent _ c.new-then-bank-self.result (simulated s) c.args.bank c.if-not-self.false (omega (arith, size, c.if-bank-self.true)) (ap cause_number cause) (ap cause_place cause) in
     let code = sym none.why.number ∙ ap cause_number cause in
     record { erases = none; state = erase_state_same (state_of s) c.args.bank (omega (arith, code)) (omega (arith, code)) }
 
@@ -22,24 +22,24 @@ pub returns-then-self-eq0 : goal.returns-then-self-eq0
 returns-then-self-eq0 c =
     let s = c.args.self.now in
     let b = c.args.bank in
-    let there = in_bank s.banks s.width (items s) s.on s.charge (full_of s) b c.if-bank-self.false in
-    let left = bank_residue s.pattern (take s.width (drop (b * s.width) (items s))) in
-    let size = row_residue_length s.banks s.width (items s) false s.charge (full_of s) b c.if-bank-self.false s.pattern in
+    let there = in_bank s.banks s.width (items s) s.on s.entry.charge (full_of s) b c.if-bank-self.false in
+    let left = bank_residue s.entry.pattern (take s.width (drop (b * s.width) (items s))) in
+    let size = row_residue_length s.banks s.width (items s) false s.entry.charge (full_of s) b c.if-bank-self.false s.entry.pattern in
     let after : state_of c.turn_off.new.self ≡ turned_off (with_bank_cut (state_of s) b) = c.turn_off.ensures ∙ ap turned_off c.cut_bank.ensures in
-    let cause = c.fault-then-self-eq0.ensures in
-    let cut = erase_cut (simulated s) b c.if-not-self.false there _ c.fault-then-self-eq0.result _ c.if-self-eq0.true (ap cause_number cause) (ap cause_place cause)
-    left (table_residue s.banks s.width (items s) s.on s.charge (full_of s) b c.if-bank-self.false s.pattern)
-    (ap flash_of after ∙ table_bank s.banks s.width (items s) false s.charge (full_of s) b c.if-bank-self.false left size) in
+    let cause = c.new-then-self-eq0.ensures in
+    let cut = erase_cut (simulated s) b c.if-not-self.false there _ c.new-then-self-eq0.result _ c.if-self-eq0.true (ap cause_number cause) (ap cause_place cause)
+    left (table_residue s.banks s.width (items s) s.on s.entry.charge (full_of s) b c.if-bank-self.false s.entry.pattern)
+    (ap flash_of after ∙ table_bank s.banks s.width (items s) false s.entry.charge (full_of s) b c.if-bank-self.false left size) in
     record { erases = cut; state = after ∙ erase_state_cut (state_of s) b (sym cut.why.number ∙ ap cause_number cause) }
 
 pub returns : goal.returns
 returns c =
     let s = c.args.self.now in
     let b = c.args.bank in
-    let there = in_bank s.banks s.width (items s) s.on s.charge (full_of s) b c.if-bank-self.false in
+    let there = in_bank s.banks s.width (items s) s.on s.entry.charge (full_of s) b c.if-bank-self.false in
     let left = replicate s.width Blank in
     let after : state_of c.pay.new.self ≡ paid (with_bank_blank (state_of s) b) = c.pay.ensures ∙ ap paid c.blank_bank.ensures in
-    let paid_for : 0 < s.charge = omega (arith, c.if-self-eq0.false) in
+    let paid_for : 0 < s.entry.charge = omega (arith, c.if-self-eq0.false) in
     let done = erase_done (simulated s) b c.if-not-self.false there _ paid_for
-    (ap flash_of after ∙ table_bank s.banks s.width (items s) s.on (s.charge - 1) (full_of s) b c.if-bank-self.false left (length-replicate s.width Blank)) in
+    (ap flash_of after ∙ table_bank s.banks s.width (items s) s.on (s.entry.charge - 1) (full_of s) b c.if-bank-self.false left (length-replicate s.width Blank)) in
     record { erases = done; state = after ∙ erase_state_done (state_of s) b done.accepted }

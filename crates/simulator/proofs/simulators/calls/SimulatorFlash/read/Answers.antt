@@ -15,21 +15,15 @@ returns-then-bank-self c =
     let size = rows_length s.banks s.width (items s) in
     let far : c.args.bank < length (simulated s).units → c.args.unit < s.width → ⊥ = λ h k. elim c.then-bank-self.branch [ then-bank-self-via-then-bank-self w ↦ omega (arith, w.if-bank-self.true) | then-bank-self-via-else-bank-self+then-unit-self w ↦ omega (arith, w.if-unit-self.true) ] in
     let missing = read_missing (simulated s) c.args.bank c.args.unit c.if-not-self.false far in
-    let cause = c.fault-then-bank-self.ensures in
+    let cause = c.new-then-bank-self.ensures in
     record { reads = record { number = ap cause_number cause ∙ sym missing; refused = omega (arith, missing); place = ap cause_place cause } }
-
-pub index-requires : goal.index-requires
-index-requires c =
-    let s = c.args.self.now in
-    let fits = place_fits s.banks s.width (items s) s.on s.charge (full_of s) c.args.bank c.if-bank-self.false c.args.unit c.if-unit-self.false in
-    omega (arith, fits, s.table.ok.0)
 
 pub returns : goal.returns
 returns c =
     let s = c.args.self.now in
-    let there = in_bank s.banks s.width (items s) s.on s.charge (full_of s) c.args.bank c.if-bank-self.false in
-    let fits = place_fits s.banks s.width (items s) s.on s.charge (full_of s) c.args.bank c.if-bank-self.false c.args.unit c.if-unit-self.false in
-    let held = table_unit_at s.banks s.width (items s) s.on s.charge (full_of s) c.args.bank c.if-bank-self.false c.args.unit c.if-unit-self.false in
+    let there = in_bank s.banks s.width (items s) s.on s.entry.charge (full_of s) c.args.bank c.if-bank-self.false in
+    let fits = place_fits s.banks s.width (items s) s.on s.entry.charge (full_of s) c.args.bank c.if-bank-self.false c.args.unit c.if-unit-self.false in
+    let held = table_unit_at s.banks s.width (items s) s.on s.entry.charge (full_of s) c.args.bank c.if-bank-self.false c.args.unit c.if-unit-self.false in
     record {
       reads = record {
         accepted = read_refusal_open (simulated s) c.args.bank c.args.unit c.if-not-self.false there c.if-unit-self.false;
