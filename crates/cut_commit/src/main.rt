@@ -1,8 +1,8 @@
 // A commit of two coefficients, cut at each of its writes in turn: what the bank that is written holds, unit by unit, and what is read.
 #![tactic(auto)]
 
-use anyhow::anyhow;
-use flash::faults::FlashFault;
+use anyhow::Context;
+use flash::faults::{FlashFault, Place};
 use flash::interface::Flash;
 use flash::units::Unit;
 use journal::reading::read_units;
@@ -26,12 +26,13 @@ const B2: u8 = 8;
 // A charge for every write before the one that is to be cut.
 const PLENTY: u32 = 1000;
 
+// kept: a maker of its own, as in the other programs, which stand alone and have other plans and sizes.
 // A simulator that is powered up twice: with plenty of charge, and then with `charge`, its cut leaving a unit unreadable.
 fn planned(heap: Global, charge: u32) -> anyhow::Result<Simulator> {
     let table = vec![in heap; Unit::Blank; BANKS * UNITS]?;
-    let Ok(mut simulator) = Simulator::new(BANKS, UNITS, table) else {
-        return Err(anyhow!("no simulator"));
-    };
+    let mut simulator = Simulator::new(BANKS, UNITS, table)
+        .ok()
+        .context("no simulator")?;
     for charge in [PLENTY, charge] {
         let _ = simulator.add_entry(Entry {
             charge,
@@ -53,18 +54,11 @@ fn two_pairs(ac1: i32, b2: i32) -> Pairs {
 }
 
 // Writes a change over what stands; the place of the write that was refused, if one was.
-fn write<F: Flash>(
-    flash: &mut F,
-    change: &Pairs,
-) -> anyhow::Result<Option<(usize, Option<usize>)>> {
-    let Some(standing) = read_units(flash) else {
-        return Err(anyhow!("nothing stands"));
-    };
+fn write<F: Flash>(flash: &mut F, change: &Pairs) -> anyhow::Result<Option<Place>> {
+    let standing = read_units(flash).context("nothing stands")?;
     let number = standing.number.saturating_add(1);
-    match write_change(flash, &standing, change, number) {
-        Ok(()) => Ok(None),
-        Err(fault) => Ok(Some(fault.place())),
-    }
+    let written = write_change(flash, &standing, change, number);
+    Ok(written.err().map(|fault| fault.place()))
 }
 
 fn show_unit(rt: &impl Print, at: usize, unit: Unit) -> anyhow::Result<()> {
@@ -117,9 +111,7 @@ fn show_bank<F: Flash>(rt: &impl Print, flash: &F, bank: usize) -> anyhow::Resul
 fn cut_at(rt: &HostRuntime, before: u32, charge: u32, bank: usize) -> anyhow::Result<()> {
     let mut flash = planned(rt.alloc(), charge)?;
     flash.power_up();
-    if format_banks(&mut flash).is_err() {
-        return Err(anyhow!("not formatted"));
-    }
+    format_banks(&mut flash).ok().context("not formatted")?;
     for _ in 0..before {
         let _ = write(&mut flash, &two_pairs(408, 4))?;
     }
@@ -133,10 +125,8 @@ fn cut_at(rt: &HostRuntime, before: u32, charge: u32, bank: usize) -> anyhow::Re
         Some((at, Some(unit))) => println!(rt; "cut at unit {unit} of bank {at}")?,
     }
     show_bank(rt, &flash, bank)?;
-    match read_units(&flash) {
-        Some(standing) => show_standing(rt, &standing),
-        None => Err(anyhow!("nothing stands")),
-    }
+    let standing = read_units(&flash).context("nothing stands")?;
+    show_standing(rt, &standing)
 }
 
 fn run(rt: &HostRuntime) -> anyhow::Result<()> {

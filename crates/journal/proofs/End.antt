@@ -1,9 +1,9 @@
 -- The end of a bank: before it stands its front, after it only blank units.
-use Rattle.std.proofs.Common.{◌≡◌, ℕ, zero, suc, ◌+◌, ◌<◌, ◌≤◌, List, [], ◌∷◌, ◌++◌, map, length, get_or, take, replicate, sym, refl, ap, ◌∙◌, arith}
+use Rattle.std.proofs.Common.{◌≡◌, ℕ, zero, suc, ◌+◌, ◌<◌, ◌≤◌, ◌⊎◌, inl, inr, List, [], ◌∷◌, ◌++◌, map, length, get_or, take, replicate, sym, refl, ap, ◌∙◌, arith}
 use Rattle.std.proofs.lemmas.List.{nil_from_length, take_more, length-take-le}
 use Rattle.flash.specs.declared.units.Unit.{Unit as Cell}
 use Rattle.flash.specs.declared.units.Unit.TheVariants.{Blank, Programmed, Unreadable}
-use Rattle.journal.specs.Reading.{end_after, end_of, end_with}
+use Rattle.journal.specs.Reading.{end_after, end_of}
 
 pub record Split (us : List Cell) (e : ℕ) : Type 0 where
   pub front : List Cell
@@ -69,16 +69,24 @@ pub end_push_used : (us : List Cell) (x : Cell) → end_of (x ∷ []) ≡ 1 → 
 end_push_used us x h = end_append us (x ∷ []) 0 h ∙ omega arith
 
 -- a loop's step over the units us at the index i
-pub end_more_blank : (us : List Cell) (i : ℕ) → i < length us → get_or us i Blank ≡ Blank → end_of (take (i + 1) us) ≡ end_of (take i us)
+end_more_blank : (us : List Cell) (i : ℕ) → i < length us → get_or us i Blank ≡ Blank → end_of (take (i + 1) us) ≡ end_of (take i us)
 end_more_blank us i h e =
     ap end_of (take_more us i Blank h ∙ ap (λ x. take i us ++ x ∷ []) e) ∙ end_push_blank (take i us)
 
-pub end_more_used : (us : List Cell) (i : ℕ) (x : Cell) → i < length us → get_or us i Blank ≡ x → end_of (x ∷ []) ≡ 1 → end_of (take (i + 1) us) ≡ i + 1
+end_more_used : (us : List Cell) (i : ℕ) (x : Cell) → i < length us → get_or us i Blank ≡ x → end_of (x ∷ []) ≡ 1 → end_of (take (i + 1) us) ≡ i + 1
 end_more_used us i x h e q =
     let in-us : i ≤ length us = omega arith in
     ap end_of (take_more us i Blank h ∙ ap (λ y. take i us ++ y ∷ []) e) ∙ end_push_used (take i us) x q ∙ ap (λ n. n + 1) (length-take-le i us in-us)
 
-pub end_more : (us : List Cell) (i : ℕ) (u : Cell) → i < length us → u ≡ get_or us i Blank → end_with u (end_of (take i us)) i ≡ end_of (take (i + 1) us)
-end_more us i Blank h e = sym (end_more_blank us i h (sym e))
-end_more us i (Programmed v) h e = sym (end_more_used us i (Programmed v) h (sym e) refl)
-end_more us i Unreadable h e = sym (end_more_used us i Unreadable h (sym e) refl)
+-- the last unit that is not blank
+end_one : (x : Cell) → (((v : ℕ) × (x ≡ Programmed v)) ⊎ (x ≡ Unreadable)) → end_of (x ∷ []) ≡ 1
+end_one x (inl (v, e)) = ap (λ y. end_of (y ∷ [])) e
+end_one x (inr e) = ap (λ y. end_of (y ∷ [])) e
+
+pub end_at_used : (us : List Cell) (i : ℕ) (x : Cell) → i < length us → x ≡ get_or us i Blank → (((v : ℕ) × (x ≡ Programmed v)) ⊎ (x ≡ Unreadable)) →
+    end_of us ≡ end_of (take (i + 1) us) → i + 1 ≡ end_of us
+end_at_used us i x h e used w = sym (w ∙ end_more_used us i x h (sym e) (end_one x used))
+
+pub end_before_blank : (us : List Cell) (i : ℕ) (x : Cell) → i < length us → x ≡ get_or us i Blank → x ≡ Blank → end_of us ≡ end_of (take (i + 1) us) →
+    end_of us ≡ end_of (take i us)
+end_before_blank us i x h e b w = w ∙ end_more_blank us i h (sym e ∙ b)

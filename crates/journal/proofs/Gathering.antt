@@ -148,8 +148,11 @@ get_or_dropped zero i ms = let e : i ≡ 0 + i = omega arith in ap (λ j. get_or
 get_or_dropped (suc k) i [] = refl
 get_or_dropped (suc k) i (m ∷ ms) = let e : suc (k + i) ≡ suc k + i = omega arith in get_or_dropped k i ms ∙ ap (λ j. get_or (m ∷ ms) j Noise) e
 
-pub unit_meaning : (us : List Cell) (k i : ℕ) → get_or (drop k (meanings us)) i Noise ≡ meaning_of (get_or us (k + i) Blank)
-unit_meaning us k i = get_or_dropped k i (meanings us) ∙ get_or_meanings us (k + i)
+-- what a unit says, counted from a place on
+pub said_after : (ms : List Meaning) (from unit : ℕ) → from ≤ unit → get_or (drop from ms) (unit - from) Noise ≡ get_or ms unit Noise
+said_after ms from unit h =
+    let e : from + (unit - from) ≡ unit = omega (arith, h) in
+    get_or_dropped from (unit - from) ms ∙ ap (λ j. get_or ms j Noise) e
 
 pub meaning_at : (us : List Cell) (i : ℕ) → get_or (meanings us) i Noise ≡ meaning_of (get_or us i Blank)
 meaning_at us i = get_or_meanings us i

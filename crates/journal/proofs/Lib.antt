@@ -8,9 +8,7 @@ pub mod Append
 pub mod Move
 pub mod Format
 pub mod Theorem
-pub mod Visible
 pub mod Gathering
-pub mod Opens
 pub mod Scanning
 pub mod Performing
 pub mod Charging

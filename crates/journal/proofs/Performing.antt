@@ -1,21 +1,14 @@
 -- The steps of code that makes writes one by one.
-use Rattle.std.proofs.Common.{◌≡◌, ℕ, zero, suc, ◌+◌, ◌<◌, ◌≤◌, List, [], ◌∷◌, ◌++◌, map, length, get_or, drop, Some, Ok, Err, Option, Result, sym, refl, ap, ◌∙◌, subst, inl, inr, add-one, arith}
-use Rattle.std.proofs.lemmas.List.{drop_more, drop_all, length-map}
+use Rattle.std.proofs.Common.{◌≡◌, ℕ, suc, ◌+◌, List, [], ◌∷◌, ◌++◌, map, length, Ok, Err, Result, sym, refl, ap, ◌∙◌, subst, inl, inr, add-one, arith}
+use Rattle.std.proofs.lemmas.List.{length-map}
 use Rattle.flash.specs.declared.faults.FlashFault.{Ghosts as FaultGhosts}
 use Rattle.flash.specs.FlashState.{FlashState}
 use Rattle.flash.specs.Calls.{ProgramDone, ProgramRefused, EraseDone}
 use Rattle.journal.specs.Writes.{Write, program, erase, completed, StoppedAt, Performed, write_refusal}
 use Rattle.journal.specs.Commit.{programs, records, appending}
-use Rattle.std.specs.List.{slice_get}
-use Rattle.std.proofs.lemmas.Option.{slice_get-get_or}
-use Rattle.std.proofs.lemmas.Bool.Decides.{nat_tests}
-use Rattle.flash.specs.FlashState.{WellFormed}
-use Rattle.flash.specs.Calls.{program_refusal, Program}
-use Rattle.flash.proofs.Refusals.{width_small}
+use Rattle.flash.specs.Calls.{Program}
 use Rattle.layout.specs.declared.meanings.Pair.{Pair}
-use Rattle.layout.specs.PairLists.{no_pair}
 use Rattle.layout.specs.Codec.{record_value, commit_value}
-use Rattle.journal.proofs.Growth.{some_inj}
 
 module _ {F : Type 0} (t : FaultGhosts F) where
   -- what the flash's calls promise, as writes
@@ -44,25 +37,23 @@ module _ {F : Type 0} (t : FaultGhosts F) where
       Onward A ws s (w ∷ vs) m → StoppedAt t m w n e → Performed {A = A} t ws s n (Err e)
   onward_stopped ws s w vs m n e o x = o.onward n (Err e) (inr x)
 
-  -- the same for a row of programs, at the place i of the values
-  module _ (A : Type 0) (ws : List Write) (s : FlashState) (b u : ℕ) (vs : List ℕ) (i : ℕ) (m n : FlashState) where
-    here : i < length vs → (v : ℕ) → get_or vs i 0 ≡ v → Onward A ws s (programs b u (drop i vs)) m →
-        Onward A ws s (program b u v ∷ programs b (u + 1) (drop (i + 1) vs)) m
-    here h v e o =
-        let q : drop i vs ≡ v ∷ drop (i + 1) vs = drop_more vs i 0 h ∙ ap (λ x. x ∷ drop (i + 1) vs) e in
-        subst (λ k. Onward A ws s (program b u v ∷ programs b k (drop (i + 1) vs)) m) (sym (add-one u))
-        (subst (λ l. Onward A ws s (programs b u l) m) q o)
+  -- the same for the records of pairs, of which p is the next one
+  module _ (A : Type 0) (ws : List Write) (s : FlashState) (b u : ℕ) (left : List Pair) (p : Pair) (ps : List Pair) (m n : FlashState)
+      (next : left ≡ p ∷ ps) (v : ℕ) (value : v ≡ record_value p) (o : Onward A ws s (records b u left) m) where
+    here : Onward A ws s (program b u v ∷ records b (u + 1) ps) m
+    here =
+        subst (λ k. Onward A ws s (program b u v ∷ records b k ps) m) (sym (add-one u))
+        (subst (λ x. Onward A ws s (program b u x ∷ records b (suc u) ps) m) (sym value) (subst (λ l. Onward A ws s (records b u l) m) next o))
 
-    pub row_more : i < length vs → (v : ℕ) → get_or vs i 0 ≡ v → Onward A ws s (programs b u (drop i vs)) m → ProgramDone m b u v n →
-        Onward A ws s (programs b (u + 1) (drop (i + 1) vs)) n
-    row_more h v e o d = onward_done ws s (program b u v) (programs b (u + 1) (drop (i + 1) vs)) m n (here h v e o) d.accepted d.is
+    pub record_done : ProgramDone m b u v n → Onward A ws s (records b (u + 1) ps) n
+    record_done d = onward_done ws s (program b u v) (records b (u + 1) ps) m n here d.accepted d.is
 
-    pub row_stopped : i < length vs → (v : ℕ) → get_or vs i 0 ≡ v → Onward A ws s (programs b u (drop i vs)) m →
-        (e : F) → ProgramRefused t m b u v n e → Performed {A = A} t ws s n (Err e)
-    row_stopped h v q o e r = onward_stopped ws s (program b u v) (programs b (u + 1) (drop (i + 1) vs)) m n e (here h v q o) (program_stopped m b u v n e r)
+    pub record_stopped : (e : F) → ProgramRefused t m b u v n e → Performed {A = A} t ws s n (Err e)
+    record_stopped e r = onward_stopped ws s (program b u v) (records b (u + 1) ps) m n e here (program_stopped m b u v n e r)
 
-    pub row_end : (a : A) → length vs ≤ i → Onward A ws s (programs b u (drop i vs)) m → Performed t ws s m (Ok a)
-    row_end a h o = onward_end ws s m a (subst (λ l. Onward A ws s (programs b u l) m) (drop_all i vs h) o)
+  pub records_end : (A : Type 0) (ws : List Write) (s : FlashState) (b u : ℕ) (left : List Pair) (m : FlashState) (a : A) → left ≡ [] → Onward A ws s (records b u left) m →
+      Performed t ws s m (Ok a)
+  records_end A ws s b u left m a e o = onward_end ws s m a (subst (λ l. Onward A ws s (records b u l) m) e o)
 
   -- writes after writes
   pub performed_append : {A B : Type 0} (ws vs : List Write) (s m s' : FlashState) (a : A) (r : Result B F) →
@@ -76,22 +67,6 @@ module _ {F : Type 0} (t : FaultGhosts F) where
   performed_short A B [] vs s s' e p = absurd p
   performed_short A B (w ∷ ws) vs s s' e (inl (z, p)) = inl (z, performed_short A B ws vs (completed s w) s' e p)
   performed_short A B (w ∷ ws) vs s s' e (inr x) = inr x
-
--- a completed program names a unit of a bank, and a bank has at most 4096
-pub program_inside : (s : FlashState) (b u : ℕ) → WellFormed s → program_refusal s b u ≡ 0 → u < 4096
-program_inside s b u w z =
-    let there : b < length s.units = grind (arith, nat_tests) in
-    let inside : u < s.width = grind (arith, nat_tests) in
-    omega (arith, width_small s b w there)
-
--- the record of the pair at a place
-pub record_at : (ps : List Pair) (i : ℕ) (p : Pair) → i < length ps → Some p ≡ slice_get ps i → get_or (map record_value ps) i 0 ≡ record_value p
-record_at [] i p h e = absurd (omega arith)
-record_at (q ∷ ps) zero p h e = ap record_value (sym (some_inj e))
-record_at (q ∷ ps) (suc i) p h e = record_at ps i p (omega arith) e
-
-pub record_there : (ps : List Pair) (i : ℕ) (o : Option Pair) → i < length ps → o ≡ slice_get ps i → ((p : Pair) → o ≡ Some p → ⊥) → ⊥
-record_there ps i o h e ne = ne (get_or ps i no_pair) (e ∙ slice_get-get_or ps i no_pair h)
 
 -- the writes of a change and of a move, as the code makes them
 programs_append : (b u : ℕ) (xs ys : List ℕ) → programs b u (xs ++ ys) ≡ programs b u xs ++ programs b (u + length xs) ys

@@ -106,12 +106,6 @@ abbrev pub end_of : List Cell → ℕ
 end_of [] = 0
 end_of (u ∷ us) = end_after u (end_of us)
 
--- the end with one unit more, at this place
-abbrev pub end_with : Cell → ℕ → ℕ → ℕ
-end_with Blank end place = end
-end_with (Programmed v) end place = place + 1
-end_with Unreadable end place = place + 1
-
 -- what is read: the active bank, the pairs, the number, and the end
 pub record Reading : Type 0 where
   pub active : ℕ

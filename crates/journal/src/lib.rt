@@ -6,4 +6,5 @@ mod choices;
 mod logs;
 pub mod reading;
 pub mod standing;
+mod views;
 pub mod writers;

@@ -1,6 +1,6 @@
 // The writers: the only place where the store programs and erases. Each makes its writes in their order, up to the first that
 // the flash refuses, and answers that one's fault.
-ghost use Rattle.std.specs.Prelude.{◌≡◌, ◌+◌, [], ◌∷◌, length, IfOk};
+ghost use Rattle.std.specs.Prelude.{◌≡◌, ◌+◌, length, IfOk};
 ghost use Rattle.flash.specs.Seen.{seen};
 ghost use Rattle.layout.specs.Held.{pairs_of};
 ghost use Rattle.journal.specs.Log.{reading_of};
@@ -25,47 +25,37 @@ fn program_records<F: Flash>(
     ensures writes { Performed F.Fault.FlashFault (records bank from (pairs_of pairs.now)) (seen F.Flash flash.old) (seen F.Flash flash.new) result }
     ensures next { IfOk result (λ at. at ≡ from + length (pairs_of pairs.now)) }
 {
+    // kept: a unit counted on beside the pairs, since the unit after them is the answer.
     let mut at = from;
-    for i in 0..pairs.len() {
-        if let Some(pair) = pairs.at(i) {
-            match flash.program(bank, at, encode_record(pair)) {
-                Ok(()) => {}
-                Err(fault) => return Err(fault),
-            }
-            at += 1;
-        }
+    for pair in pairs {
+        flash.program(bank, at, encode_record(pair))?;
+        at += 1;
     }
     Ok(at)
 }
 
-// Writes a change at the end of a bank: its records, then a commit of its count and of the number.
+// Writes a change at the end of what stands: its records, then a commit of its count and of the number.
 fn append<F: Flash>(
     flash: &mut F,
-    bank: usize,
-    end: usize,
+    standing: &Standing,
     change: &Pairs,
     number: u32,
 ) -> Result<(), F::Fault>
-    ensures { Performed F.Fault.FlashFault (appending bank end (pairs_of change.now) number) (seen F.Flash flash.old) (seen F.Flash flash.new) result }
+    ensures { Performed F.Fault.FlashFault (appending standing.now.bank standing.now.end (pairs_of change.now) number) (seen F.Flash flash.old) (seen F.Flash flash.new) result }
 {
-    match program_records(flash, bank, end, change) {
-        Ok(at) => flash.program(bank, at, encode_commit(change.len() as u8, number)),
-        Err(fault) => Err(fault),
-    }
+    let at = program_records(flash, standing.bank, standing.end, change)?;
+    // kept: `as`, proved to fit; `try_from` would answer an error that cannot come.
+    flash.program(standing.bank, at, encode_commit(change.len() as u8, number))
 }
 
 // Writes pairs into a bank, which it erases before: their records from unit 1 on, and last the header.
 fn rewrite<F: Flash>(flash: &mut F, bank: usize, pairs: &Pairs, number: u32) -> Result<(), F::Fault>
     ensures { Performed F.Fault.FlashFault (moving bank (pairs_of pairs.now) number) (seen F.Flash flash.old) (seen F.Flash flash.new) result }
 {
-    match flash.erase(bank) {
-        Ok(()) => {}
-        Err(fault) => return Err(fault),
-    }
-    match program_records(flash, bank, 1, pairs) {
-        Ok(_) => flash.program(bank, 0, encode_header(pairs.len() as u8, number)),
-        Err(fault) => Err(fault),
-    }
+    flash.erase(bank)?;
+    program_records(flash, bank, 1, pairs)?;
+    // kept: `as`, proved to fit; `try_from` would answer an error that cannot come.
+    flash.program(bank, 0, encode_header(pairs.len() as u8, number))
 }
 
 // Erases both banks and programs the header of an empty store.
@@ -73,14 +63,8 @@ pub fn format_banks<F: Flash>(flash: &mut F) -> Result<(), F::Fault>
     ensures writes { Performed F.Fault.FlashFault formatting (seen F.Flash flash.old) (seen F.Flash flash.new) result }
     ensures empty { EmptyAfter F.Fault.FlashFault (seen F.Flash flash.old) (seen F.Flash flash.new) result }
 {
-    match flash.erase(0) {
-        Ok(()) => {}
-        Err(fault) => return Err(fault),
-    }
-    match flash.erase(1) {
-        Ok(()) => {}
-        Err(fault) => return Err(fault),
-    }
+    flash.erase(0)?;
+    flash.erase(1)?;
     flash.program(0, 0, encode_header(0, 0))
 }
 
@@ -96,7 +80,7 @@ pub fn write_change<F: Flash>(
     ensures whole_or_absent { WholeOrAbsentAfter F.Fault.FlashFault (seen F.Flash flash.old) (reading_of standing.now) (pairs_of change.now) number (seen F.Flash flash.new) result }
 {
     if is_room(flash.units_per_bank(), standing.end, change.len()) {
-        append(flash, standing.bank, standing.end, change, number)
+        append(flash, standing, change, number)
     } else {
         rewrite(
             flash,

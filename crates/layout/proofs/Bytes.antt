@@ -1,7 +1,7 @@
 -- The bytes of a unit's value and of its content.
 use Rattle.std.proofs.Common.{◌≡◌, ℕ, ◌+◌, ◌*◌, ◌/◌, ◌%◌, ◌^◌, ◌<◌, List, [], ◌∷◌, ap, ◌∙◌, arith}
-use lib.Bits.{bit_or}
-use Rattle.std.proofs.lemmas.Nat.{shr-shr, or_shifted, shl_whole}
+use lib.Bits.{bit_and, bit_or}
+use Rattle.std.proofs.lemmas.Nat.{and_mask, shr-shr, or_shifted, shl_whole}
 use Rattle.layout.specs.Contents.{six_bytes, content}
 
 -- the six high bytes of a value are those of its content
@@ -20,3 +20,15 @@ shl_or a j k b ha hw hb = ap (λ x. bit_or x b) (shl_whole a j k 64 ha (omega ar
 pub content_below : (m s w : ℕ) → m < 256 → s < 256 → w < 2 ^ 32 → content m s w < 2 ^ 48
 unfolding content
 content_below m s w hm hs hw = omega arith
+
+-- the lowest byte, the lowest 16 bits, and the lowest 32
+pub low_byte : (n : ℕ) → bit_and n 255 ≡ n % 256
+low_byte n = and_mask n 8
+
+pub low_half : (n : ℕ) → bit_and n 65535 ≡ n % 65536
+low_half n = and_mask n 16
+
+pub low_word : (n : ℕ) → bit_and n 4294967295 ≡ n % 4294967296
+low_word n = and_mask n 32
+
+pub ruleset masks = (low_byte, low_half, low_word)

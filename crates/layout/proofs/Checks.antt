@@ -6,14 +6,14 @@ use Rattle.std.proofs.lemmas.Nat.{xor_lt}
 use Rattle.layout.specs.Crc.{shift, feed, crc, shifts}
 use Rattle.layout.specs.Contents.{crc_of}
 
-pub shift_below : (r : ℕ) → shift r < 65536
+shift_below : (r : ℕ) → shift r < 65536
 unfolding shift
 shift_below r =
     cond_both (ltb r 0x8000) (r * 2) (bit_xor (r * 2 % 65536) 0x1021) (λ x. x < 65536)
     (λ e. omega (arith, ltb-true r 0x8000 e))
     (λ e. xor_lt 16 (r * 2 % 65536) 0x1021 (omega arith) (omega arith))
 
-pub feed_below : (r b : ℕ) → feed r b < 65536
+feed_below : (r b : ℕ) → feed r b < 65536
 unfolding feed
 feed_below r b = shift_below (shifts 7 (bit_xor r (b * 256)))
 

@@ -1,5 +1,5 @@
 -- What a content says, by its mark; and that a written unit is read back as what was written.
-use Rattle.std.proofs.Common.{◌≡◌, ℕ, ◌/◌, ◌%◌, ◌^◌, ◌<◌, ◌≤◌, Bool, true, cond, eqb, leb, sym, ap, ◌∙◌, arith, w32, SFits, to_z, of_z}
+use Rattle.std.proofs.Common.{◌≡◌, ℕ, ◌/◌, ◌%◌, ◌^◌, ◌<◌, ◌≤◌, Bool, true, cond, eqb, leb, refl, sym, ap, ◌∙◌, arith, w32, SFits, to_z, of_z}
 use Rattle.std.proofs.lemmas.Bool.Decides.{nat_tests}
 use Rattle.std.proofs.lemmas.Int.{to_z-of_z, ints}
 use Rattle.std.proofs.lemmas.Bool.{eq-eqb, le-leb, leb-true, cond-true, cond_both}
@@ -10,35 +10,47 @@ use Rattle.layout.specs.declared.meanings.Meaning.{Meaning}
 use Rattle.layout.specs.declared.meanings.Pair.{Pair}
 use Rattle.layout.specs.Catalogue.{pair_of, admits}
 use Rattle.layout.proofs.WellFormed.{key_bounds, admits_fits}
+use Rattle.layout.proofs.Bytes.{masks}
 use Rattle.layout.proofs.Checks.{crc_of_below}
 
-pub content_record : (n : ℕ) → mark_of n ≡ 0x52 → content_meaning n ≡ as_record (pair_of (second_of n) (to_z w32 (word_of n)))
+pub content_says : (n : ℕ) →
+    content_meaning n
+    ≡ cond (eqb (mark_of n) 0x52) (cond (admits (pair_of (second_of n) (to_z w32 (word_of n)))) (Record (pair_of (second_of n) (to_z w32 (word_of n)))) Noise)
+    (cond (eqb (mark_of n) 0x43) (cond (leb (second_of n) 12) (Commit (second_of n) (word_of n)) Noise)
+    (cond (eqb (mark_of n) 0x48) (cond (leb (second_of n) 48) (Header (second_of n) (word_of n)) Noise) Noise))
+unfolding content_meaning as_record as_commit as_header
+content_says n = refl
+
+-- what a match on a content's mark, with the tests behind it, has to know
+pub ruleset contents = (nat_tests, masks, content_says)
+
+content_record : (n : ℕ) → mark_of n ≡ 0x52 → content_meaning n ≡ as_record (pair_of (second_of n) (to_z w32 (word_of n)))
 unfolding content_meaning
 content_record n h = cond-true (eqb (mark_of n) 0x52) _ _ (eq-eqb (mark_of n) 0x52 h)
 
-pub content_commit : (n : ℕ) → mark_of n ≡ 0x43 → content_meaning n ≡ as_commit (second_of n) (word_of n)
+content_commit : (n : ℕ) → mark_of n ≡ 0x43 → content_meaning n ≡ as_commit (second_of n) (word_of n)
 unfolding content_meaning
 content_commit n h = grind (arith, nat_tests)
 
-pub content_header : (n : ℕ) → mark_of n ≡ 0x48 → content_meaning n ≡ as_header (second_of n) (word_of n)
+content_header : (n : ℕ) → mark_of n ≡ 0x48 → content_meaning n ≡ as_header (second_of n) (word_of n)
 unfolding content_meaning
 content_header n h = grind (arith, nat_tests)
 
 -- the parts of a content that was put together
-pub mark_content : (m s w : ℕ) → s < 256 → w < 2 ^ 32 → mark_of (content m s w) ≡ m
+mark_content : (m s w : ℕ) → s < 256 → w < 2 ^ 32 → mark_of (content m s w) ≡ m
 unfolding content
 mark_content m s w hs hw = omega arith
 
-pub second_content : (m s w : ℕ) → s < 256 → w < 2 ^ 32 → second_of (content m s w) ≡ s
+second_content : (m s w : ℕ) → s < 256 → w < 2 ^ 32 → second_of (content m s w) ≡ s
 unfolding content
 second_content m s w hs hw = omega arith
 
-pub word_content : (m s w : ℕ) → s < 256 → w < 2 ^ 32 → word_of (content m s w) ≡ w
+word_content : (m s w : ℕ) → s < 256 → w < 2 ^ 32 → word_of (content m s w) ≡ w
 unfolding content
 word_content m s w hs hw = omega arith
 
 -- a sealed content is read as what the content says
-pub decoded_sealed : (n : ℕ) → decoded (sealed n) ≡ content_meaning n
+decoded_sealed : (n : ℕ) → decoded (sealed n) ≡ content_meaning n
 unfolding decoded sealed
 decoded_sealed n =
     let b = crc_of_below n in

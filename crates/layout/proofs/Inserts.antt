@@ -18,7 +18,7 @@ place_here : (k : ℕ) (p : Pair) (ps : List Pair) → ltb p.key k ≡ false →
 place_here k p ps t = cond-false (ltb p.key k) _ _ t
 
 -- where the key stands at its place, its pair is replaced
-pub with_replaced : (k : ℕ) (v : ℤ) (ps : List Pair) → place_of k (keys_of ps) < length ps →
+with_replaced : (k : ℕ) (v : ℤ) (ps : List Pair) → place_of k (keys_of ps) < length ps →
     get_or (keys_of ps) (place_of k (keys_of ps)) 0 ≡ k → with_pair (pair_of k v) ps ≡ set ps (place_of k (keys_of ps)) (pair_of k v)
 with_replaced k v [] h e = absurd (omega arith)
 with_replaced k v (p ∷ ps) h e =
@@ -36,7 +36,7 @@ with_replaced k v (p ∷ ps) h e =
     (cases_Bool (ltb p.key k))
 
 -- where another key or none stands there, the pair is inserted
-pub with_inserted : (k : ℕ) (v : ℤ) (ps : List Pair) →
+with_inserted : (k : ℕ) (v : ℤ) (ps : List Pair) →
     (place_of k (keys_of ps) < length ps → get_or (keys_of ps) (place_of k (keys_of ps)) 0 ≡ k → ⊥) →
     with_pair (pair_of k v) ps ≡ insert ps (place_of k (keys_of ps)) (pair_of k v)
 with_inserted k v [] ne = refl

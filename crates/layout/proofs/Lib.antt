@@ -1,12 +1,9 @@
 pub mod Rows
-pub mod Names
 pub mod Checks
 pub mod Bytes
 pub mod Decoding
 pub mod WellFormed
 pub mod Paired
-pub mod Places
 pub mod Inserts
-pub mod Moves
 pub mod Lookups
 pub mod Written

@@ -1,7 +1,9 @@
 -- Keys and values side by side: lengths, places, an insertion and a replacement.
-use Rattle.std.proofs.Common.{◌≡◌, ℕ, zero, suc, ◌+◌, ◌<◌, ◌≤◌, List, [], ◌∷◌, map, length, get_or, take, set, ℤ, pos, sym, refl, ap, ◌∙◌, arith}
-use Rattle.std.specs.List.{insert}
+use Rattle.std.proofs.Common.{◌≡◌, ℕ, zero, suc, ◌+◌, ◌<◌, ◌≤◌, List, [], ◌∷◌, map, length, get_or, take, set, ℤ, pos, sym, refl, ap, ◌∙◌, cond, ltb, Some, None, arith}
+use Rattle.std.specs.List.{insert, slice_get}
 use Rattle.std.proofs.lemmas.List.{length-take-le, get_or-take}
+use Rattle.std.proofs.lemmas.Option.{slice_get-get_or, slice_get_past}
+use Rattle.std.proofs.lemmas.Bool.{cond_both, ltb-true, ltb-false}
 use Rattle.layout.specs.Catalogue.{pair_of}
 use Rattle.layout.specs.PairLists.{no_pair, paired, listed}
 use Rattle.layout.specs.declared.meanings.Pair.{Pair}
@@ -52,13 +54,20 @@ module _ (ks : List ℕ) (vs : List ℤ) (n : ℕ) (hk : n ≤ length ks) (hv : 
   pub keys_listed : keys_of (listed ks vs n) ≡ take n ks
   keys_listed = keys_paired (take n ks) (take n vs) same_take
 
-  pub get_or_listed : (i : ℕ) → i < n → get_or (listed ks vs n) i no_pair ≡ pair_of (get_or ks i 0) (get_or vs i (pos 0))
+  get_or_listed : (i : ℕ) → i < n → get_or (listed ks vs n) i no_pair ≡ pair_of (get_or ks i 0) (get_or vs i (pos 0))
   get_or_listed i b =
       let a = length-take-le n ks hk in
       let e = length-take-le n vs hv in
       let x = get_or-take n ks i 0 b in
       let y = get_or-take n vs i (pos 0) b in
       get_or_paired (take n ks) (take n vs) i (omega arith) (omega arith) ∙ (λ j. pair_of (x j) (y j))
+
+  pub slice_get_listed : (i : ℕ) → cond (ltb i n) (Some (pair_of (get_or ks i 0) (get_or vs i (pos 0)))) None ≡ slice_get (listed ks vs n) i
+  slice_get_listed i =
+      let l = length_listed in
+      cond_both (ltb i n) (Some (pair_of (get_or ks i 0) (get_or vs i (pos 0)))) None (λ o. o ≡ slice_get (listed ks vs n) i)
+      (λ e. let b = ltb-true i n e in ap Some (sym (get_or_listed i b)) ∙ sym (slice_get-get_or (listed ks vs n) i no_pair (omega arith)))
+      (λ e. sym (slice_get_past (listed ks vs n) i (omega (arith, ltb-false i n e))))
 
   pub listed_inserted : (ks' : List ℕ) (vs' : List ℤ) (i k : ℕ) (v : ℤ) →
       take (n + 1) ks' ≡ insert (take n ks) i k → take (n + 1) vs' ≡ insert (take n vs) i v →

@@ -1,8 +1,11 @@
--- A table whose rows say what they should says it at each place.
-use Rattle.std.proofs.Common.{◌≡◌, ℕ, zero, suc, ◌+◌, ◌<◌, ◌≤◌, true, false, ◌&&◌, leb, List, [], ◌∷◌, map, length, get_or, sym, refl, ap, ◌∙◌, le_of_suc-le-suc, not-suc-le-zero, add-zero, add-suc, suc-add, arith}
-use Rattle.std.proofs.lemmas.Bool.{and_left, and_parts, leb-true}
-use Rattle.layout.specs.Catalogue.{limits, names, is_key, within, admits}
-use Rattle.layout.specs.Rows.{RowText, row_says, rows_from, RowSays}
+-- A table whose rows say what they should says it at each place; which pairs it admits, and which key it gives a name.
+use Rattle.std.proofs.Common.{◌≡◌, ℕ, zero, suc, ◌+◌, ◌<◌, Bool, true, false, cond, ◌&&◌, ◌||◌, ◌==◌, ltb, leb, List, [], ◌∷◌, map, length, get_or, Some, Option, sym, refl, ap, ◌∙◌, le_of_suc-le-suc, not-suc-le-zero, add-zero, add-suc, suc-add, add-one, arith}
+use Rattle.std.proofs.lemmas.Bool.Decides.{nat_tests}
+use Rattle.std.specs.Option.{option_map_or}
+use Rattle.std.specs.Str.{bytes_eq}
+use Rattle.std.specs.List.{list_any, find}
+use Rattle.layout.specs.Catalogue.{limits, names, within, key_from}
+use Rattle.layout.specs.Rows.{RowText, limits_of, row_says, rows_from, RowSays}
 use Rattle.layout.specs.declared.catalogue.Row.{Row}
 use Rattle.layout.specs.declared.meanings.Pair.{Pair}
 
@@ -29,13 +32,39 @@ row_rule rows d all i h =
     row_says_at rows i d ∙ ap (λ xs. get_or xs i (row_says d)) all ∙ rows_from_at 0 names i (row_says d) h
     ∙ ap (λ n. sentence n (get_or names i [])) p
 
-pub admits_key : (p : Pair) → is_key p.key ≡ true → admits p ≡ within (limits p.key) p.value
-unfolding admits
-admits_key p h = ap (λ b. b && within (limits p.key) p.value) h
+-- of the keys after k the first, or one of the n behind it
+one_of : (w : ℕ → Bool) (k n q : ℕ) →
+    (suc k == q && w (suc k)) || (ltb (suc k) q && leb q (suc k + n) && w q) ≡ (ltb k q && leb q (k + suc n) && w q)
+one_of w k n q = grind (arith, nat_tests)
 
-pub admits_other : (p : Pair) → is_key p.key ≡ false → admits p ≡ false
-unfolding admits
-admits_other p h = and_left (is_key p.key) _ h
+pub rows_admit : (rows : List Row) (k : ℕ) (ns : List (List ℕ)) (p : Pair) → map row_says rows ≡ rows_from k ns →
+    list_any (λ (r : Row). r.key == p.key && within (limits_of r.limits) p.value) rows
+    ≡ (ltb k p.key && leb p.key (k + length ns) && within (limits p.key) p.value)
+rows_admit [] k [] p e = grind (arith, nat_tests)
+rows_admit [] k (n ∷ ns) p e = cc
+rows_admit (r ∷ rs) k [] p e = cc
+rows_admit (r ∷ rs) k (n ∷ ns) p e =
+    let first : row_says r ≡ (suc k, n, limits (suc k)) = cc in
+    let others = list_any (λ (r : Row). r.key == p.key && within (limits_of r.limits) p.value) rs in
+    ap (λ j. j == p.key && within (limits_of r.limits) p.value || others) (ap (λ s. s.0) first)
+    ∙ ap (λ l. suc k == p.key && within l p.value || others) (ap (λ s. s.2) first)
+    ∙ ap (λ b. suc k == p.key && within (limits (suc k)) p.value || b) (rows_admit rs (suc k) ns p cc)
+    ∙ one_of (λ q. within (limits q) p.value) k (length ns) p.key
 
-pub key_above : (k : ℕ) → is_key k ≡ true → (1 ≤ k) × (k ≤ 13)
-key_above k h = let t = and_parts (leb 1 k) (leb k 13) h in (leb-true 1 k t.0, leb-true k 13 t.1)
+key_of_first : (b : Bool) (r : Row) (o : Option Row) →
+    option_map_or (λ (r : Row). r.key) (cond b (Some r) o) 0 ≡ cond b r.key (option_map_or (λ (r : Row). r.key) o 0)
+key_of_first true r o = refl
+key_of_first false r o = refl
+
+pub rows_name : (rows : List Row) (k : ℕ) (ns : List (List ℕ)) (w : List ℕ) → map row_says rows ≡ rows_from k ns →
+    option_map_or (λ (r : Row). r.key) (find (λ (r : Row). bytes_eq r.name.now w) rows) 0 ≡ key_from (suc k) ns w
+rows_name [] k [] w e = refl
+rows_name [] k (n ∷ ns) w e = cc
+rows_name (r ∷ rs) k [] w e = cc
+rows_name (r ∷ rs) k (n ∷ ns) w e =
+    let first : row_says r ≡ (suc k, n, limits (suc k)) = cc in
+    let others = option_map_or (λ (r : Row). r.key) (find (λ (r : Row). bytes_eq r.name.now w) rs) 0 in
+    key_of_first (bytes_eq r.name.now w) r (find (λ (r : Row). bytes_eq r.name.now w) rs)
+    ∙ ap (λ m. cond (bytes_eq m w) r.key others) (ap (λ s. s.1) first)
+    ∙ ap (λ j. cond (bytes_eq n w) j others) (ap (λ s. s.0) first)
+    ∙ ap (cond (bytes_eq n w) (suc k)) (rows_name rs (suc k) ns w (cc) ∙ ap (λ j. key_from j ns w) (sym (add-one (suc k))))

@@ -1,5 +1,5 @@
 -- Laws of lists of pairs: rising keys and the catalogue under `with_pair` and `merged`, and look-ups.
-use Rattle.std.proofs.Common.{◌≡◌, ℕ, zero, suc, ◌+◌, ◌<◌, ◌≤◌, Bool, true, false, cond, ◌&&◌, eqb, ltb, leb, List, [], ◌∷◌, length, get_or, take, ℤ, pos, negsuc, sym, refl, ap, ◌∙◌, arith, w32, SFits}
+use Rattle.std.proofs.Common.{◌≡◌, ℕ, zero, suc, ◌+◌, ◌<◌, ◌≤◌, Bool, true, false, cond, ◌&&◌, eqb, ltb, leb, List, [], ◌∷◌, ◌++◌, length, get_or, take, ℤ, pos, negsuc, sym, refl, ap, ◌∙◌, arith, w32, SFits}
 use mathlib.Core.List.{reverse_aux}
 use lib.Signed.{le_z, mag}
 use Rattle.std.proofs.lemmas.Int.{ints}
@@ -54,6 +54,11 @@ admitted_reverse [] qs h r = r
 admitted_reverse (p ∷ ps) qs h r =
     let hs = and_parts (admits p) (all_admitted ps) h in admitted_reverse ps (p ∷ qs) hs.1 (and_from _ _ hs.0 r)
 
+-- a pair that stands among others is admitted
+pub admitted_among : (before : List Pair) (p : Pair) (after : List Pair) → all_admitted (before ++ p ∷ after) ≡ true → admits p ≡ true
+admitted_among [] p after h = (and_parts (admits p) (all_admitted after) h).0
+admitted_among (q ∷ before) p after h = admitted_among before p after (and_parts (admits q) (all_admitted (before ++ p ∷ after)) h).1
+
 -- each pair of the list is admitted
 pub admitted_at : (ps : List Pair) (i : ℕ) (d : Pair) → i < length ps → all_admitted ps ≡ true → admits (get_or ps i d) ≡ true
 admitted_at [] i d h t = absurd (omega arith)
@@ -68,7 +73,7 @@ key_bounds p a =
     (leb-true 1 p.key t.0, leb-true p.key 13 t.1)
 
 -- so there are at most 13 rising keys
-pub rising_few : (b : ℕ) (ps : List Pair) → b ≤ 13 → rising_above b ps ≡ true → all_admitted ps ≡ true → length ps + b ≤ 13
+rising_few : (b : ℕ) (ps : List Pair) → b ≤ 13 → rising_above b ps ≡ true → all_admitted ps ≡ true → length ps + b ≤ 13
 rising_few b [] h r a = omega arith
 rising_few b (p ∷ ps) h r a =
     let rs = and_parts (ltb b p.key) (rising_above p.key ps) r in

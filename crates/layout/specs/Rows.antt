@@ -1,14 +1,19 @@
 -- What the rows of the catalogue's table say.
 use Rattle.std.specs.Prelude.{◌≡◌, ℕ, suc, ◌+◌, List, [], ◌∷◌, slice_index_or}
 use Rattle.layout.specs.Catalogue.{Limits, limits, names}
+use Rattle.layout.specs.declared.catalogue.Limits.{Limits as RowLimits}
 use Rattle.layout.specs.declared.catalogue.Row.{Row}
 
 -- a key, its name, its limits
 abbrev pub RowText : Type 0
 RowText = ℕ × List ℕ × Limits
 
+-- the limits of a row
+abbrev pub limits_of : RowLimits → Limits
+limits_of l = record { low = l.low; high = l.high; hole = l.hole }
+
 abbrev pub row_says : Row → RowText
-row_says r = (r.key, r.name.now, record { low = r.low; high = r.high; hole = r.hole })
+row_says r = (r.key, r.name.now, limits_of r.limits)
 
 -- what the rows from a place on should say
 abbrev pub rows_from : ℕ → List (List ℕ) → List RowText

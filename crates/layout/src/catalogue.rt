@@ -1,18 +1,50 @@
 // The catalogue: the keys of coefficients and settings, their names, and which values each admits.
-ghost use Rattle.std.specs.Prelude.{◌≡◌, ◌<◌, map};
+ghost use Rattle.std.specs.Prelude.{◌≡◌, ℕ, ◌==◌, ◌&&◌, ◌<◌, map, slice_index_or};
+ghost use Rattle.layout.specs.declared.catalogue.Row.{Row};
 ghost use Rattle.layout.specs.Catalogue.{names, is_key, key_named, is_hole, within, admits as admitted};
-ghost use Rattle.layout.specs.Rows.{row_says, rows_from, RowSays};
+ghost use Rattle.layout.specs.Rows.{limits_of, row_says, rows_from, RowSays};
 
 use crate::meanings::Pair;
+
+// The values that a key admits: those from the lowest to the highest, in some without 0 and -1.
+// kept: three plain fields, as the definition of the limits has them; a range with a flag beside it is no plainer.
+#[derive(Clone, Copy)]
+struct Limits {
+    pub low: i32,
+    pub high: i32,
+    pub hole: bool,
+}
 
 #[derive(Clone, Copy)]
 struct Row {
     pub key: u8,
     pub name: &'static str,
-    pub low: i32,
-    pub high: i32,
-    pub hole: bool,
+    pub limits: Limits,
 }
+
+const SIGNED: Limits = Limits {
+    low: -32768,
+    high: 32767,
+    hole: true,
+};
+
+const UNSIGNED: Limits = Limits {
+    low: 1,
+    high: 65534,
+    hole: false,
+};
+
+const OVERSAMPLING: Limits = Limits {
+    low: 0,
+    high: 3,
+    hole: false,
+};
+
+const PRESSURE_CORRECTION: Limits = Limits {
+    low: -500,
+    high: 500,
+    hole: false,
+};
 
 // How many keys there are; they are 1 up to this.
 const KEYS: u8 = 13;
@@ -21,110 +53,84 @@ const CATALOGUE: [Row; 13] = [
     Row {
         key: 1,
         name: "AC1",
-        low: -32768,
-        high: 32767,
-        hole: true,
+        limits: SIGNED,
     },
     Row {
         key: 2,
         name: "AC2",
-        low: -32768,
-        high: 32767,
-        hole: true,
+        limits: SIGNED,
     },
     Row {
         key: 3,
         name: "AC3",
-        low: -32768,
-        high: 32767,
-        hole: true,
+        limits: SIGNED,
     },
     Row {
         key: 4,
         name: "AC4",
-        low: 1,
-        high: 65534,
-        hole: false,
+        limits: UNSIGNED,
     },
     Row {
         key: 5,
         name: "AC5",
-        low: 1,
-        high: 65534,
-        hole: false,
+        limits: UNSIGNED,
     },
     Row {
         key: 6,
         name: "AC6",
-        low: 1,
-        high: 65534,
-        hole: false,
+        limits: UNSIGNED,
     },
     Row {
         key: 7,
         name: "B1",
-        low: -32768,
-        high: 32767,
-        hole: true,
+        limits: SIGNED,
     },
     Row {
         key: 8,
         name: "B2",
-        low: -32768,
-        high: 32767,
-        hole: true,
+        limits: SIGNED,
     },
     Row {
         key: 9,
         name: "MB",
-        low: -32768,
-        high: 32767,
-        hole: true,
+        limits: SIGNED,
     },
     Row {
         key: 10,
         name: "MC",
-        low: -32768,
-        high: 32767,
-        hole: true,
+        limits: SIGNED,
     },
     Row {
         key: 11,
         name: "MD",
-        low: -32768,
-        high: 32767,
-        hole: true,
+        limits: SIGNED,
     },
     Row {
         key: 12,
         name: "OSS",
-        low: 0,
-        high: 3,
-        hole: false,
+        limits: OVERSAMPLING,
     },
     Row {
         key: 13,
         name: "PCOR",
-        low: -500,
-        high: 500,
-        hole: false,
+        limits: PRESSURE_CORRECTION,
     },
 ];
 
-// The row at a place of the table. Whoever hands in a table shows that its rows say what they should.
-fn row_in(rows: &[Row; 13], place: usize) -> Row
-    requires table { map row_says rows.now ≡ rows_from 0 names }
-    requires within { place < 13 }
-    ensures { RowSays place result }
-{
-    rows[place]
+impl Limits {
+    fn admit(&self, value: i32) -> bool
+        ensures { result ≡ within (limits_of self.now) value }
+    {
+        (self.low..=self.high).contains(&value) && !(self.hole && is_hole(value))
+    }
 }
 
-fn row_at(place: usize) -> Row
-    requires { place < 13 }
-    ensures { RowSays place result }
-{
-    row_in(&CATALOGUE, place)
+impl Row {
+    fn admits(&self, pair: Pair) -> bool
+        ensures { result ≡ (self.now.key == pair.key && within (limits_of self.now.limits) pair.value) }
+    {
+        self.key == pair.key && self.limits.admit(pair.value)
+    }
 }
 
 fn is_hole(value: i32) -> bool
@@ -133,42 +139,35 @@ fn is_hole(value: i32) -> bool
     value == 0 || value == -1
 }
 
-fn is_within(row: &Row, value: i32) -> bool
-    ensures { result ≡ within (row_says row.now).2 value }
+// The rows, and what they say: all together and each at its place.
+fn rows() -> &'static [Row]
+    ensures all { map row_says result.now ≡ rows_from 0 names }
+    ensures each { (place : ℕ) (d : Row) → place < 13 → RowSays place (slice_index_or result.now place d) }
 {
-    if value < row.low || value > row.high {
-        return false;
-    }
-    !(row.hole && is_hole(value))
+    &CATALOGUE
 }
 
 // Whether the catalogue has the key.
 pub fn is_key(key: u8) -> bool
     ensures { result ≡ is_key key }
 {
-    key >= 1 && key <= KEYS
+    (1..=KEYS).contains(&key)
 }
 
 // Whether the catalogue has the pair's key and admits its value.
 pub fn admits(pair: Pair) -> bool
     ensures { result ≡ admitted pair }
 {
-    if !is_key(pair.key) {
-        return false;
-    }
-    let row = row_at(pair.key as usize - 1);
-    is_within(&row, pair.value)
+    rows().iter().any(|row| row.admits(pair))
 }
 
 // The key of a name; 0 where the catalogue has no such name.
+// kept: a number and no Option, since the rule of the catalogue is that an unknown name has the key 0.
 pub fn key_named(name: &str) -> u8
     ensures { result ≡ key_named name.now }
 {
-    for i in 0..13usize {
-        let row = row_at(i);
-        if row.name == name {
-            return row.key;
-        }
-    }
-    0
+    rows()
+        .iter()
+        .find(|row| row.name == name)
+        .map_or(0, |row| row.key)
 }

@@ -11,6 +11,7 @@ use crate::meanings::{Meaning, Pair};
 use flash::units::Unit;
 
 // The mark of a unit, by its kind.
+// kept: bytes of the format and no enum, since the kinds have one, `Meaning`, and a mark is written in one place and matched in one.
 const RECORD: u8 = 0x52;
 
 const COMMIT: u8 = 0x43;
@@ -42,6 +43,7 @@ fn seal(mark: u8, second: u8, word: u32) -> u64
     high | u64::from(content_crc(high))
 }
 
+// kept: three functions, since each promises its own kind of unit; what they share is `seal`.
 // The value that is written for a record. It is read back as the pair, if that is admitted, and no other value is.
 pub fn encode_record(pair: Pair) -> u64
     ensures value { result ≡ record_value pair }
@@ -69,55 +71,29 @@ pub fn encode_header(count: u8, number: u32) -> u64
     seal(HEADER, count, number)
 }
 
-// A record is valid when the catalogue admits its pair.
-fn as_record(pair: Pair) -> Meaning
-    ensures { result ≡ as_record pair }
-{
-    if admits(pair) {
-        Meaning::Record(pair)
-    } else {
-        Meaning::Noise
-    }
-}
-
-fn as_commit(count: u8, number: u32) -> Meaning
-    ensures { result ≡ as_commit count number }
-{
-    if count <= COMMIT_MOST {
-        Meaning::Commit(count, number)
-    } else {
-        Meaning::Noise
-    }
-}
-
-fn as_header(count: u8, number: u32) -> Meaning
-    ensures { result ≡ as_header count number }
-{
-    if count <= HEADER_MOST {
-        Meaning::Header(count, number)
-    } else {
-        Meaning::Noise
-    }
-}
-
-// What the content of a unit, its six high bytes, says.
+// What the content of a unit, its six high bytes, says. A record is valid when the catalogue admits its pair.
+#[tactic(auto, using(crate::proofs::Decoding::contents))]
 fn meant(high: u64) -> Meaning
     requires { high < 2 ^ 48 }
     ensures { result ≡ content_meaning high }
 {
+    // kept: `as` in these three lines: bytes cut out of the content, proved to fit.
+    let mark = (high >> 40) as u8;
     let second = (high >> 32 & 0xff) as u8;
     let word = (high & 0xffff_ffff) as u32;
-    match high >> 40 {
-        0x52 => as_record(Pair {
-            key: second,
-            value: word.cast_signed(),
-        }),
-        0x43 => as_commit(second, word),
-        0x48 => as_header(second, word),
+    let pair = Pair {
+        key: second,
+        value: word.cast_signed(),
+    };
+    match mark {
+        RECORD if admits(pair) => Meaning::Record(pair),
+        COMMIT if second <= COMMIT_MOST => Meaning::Commit(second, word),
+        HEADER if second <= HEADER_MOST => Meaning::Header(second, word),
         _ => Meaning::Noise,
     }
 }
 
+#[tactic(auto, using(std::proofs::lemmas::Bool::Decides::nat_tests, crate::proofs::Bytes::masks), unfolding(crate::specs::Codec::decoded))]
 fn decode(value: u64) -> Meaning
     ensures { result ≡ decoded value }
 {

@@ -4,6 +4,7 @@
 pub mod catalogue;
 pub mod codec;
 pub mod crc;
+pub mod iter;
 pub mod meanings;
 pub mod merge;
 pub mod pairs;

@@ -11,6 +11,7 @@ pub struct Pair {
 pub enum Meaning {
     Noise,
     Record(Pair),
+    // kept: two plain numbers, as the unit has them.
     // Count and number.
     Commit(u8, u32),
     // Count and number.

@@ -26,7 +26,8 @@ impl Pairs {
     }
 
     pub fn len(&self) -> usize
-        ensures { result ≡ length (pairs_in self.now.table) }
+        ensures len { result ≡ length (pairs_in self.now.table) }
+        ensures few { result ≤ 13 }
     {
         self.table.count()
     }
@@ -41,14 +42,11 @@ impl Pairs {
     pub fn at(&self, i: usize) -> Option<Pair>
         ensures { result ≡ slice_get (pairs_in self.now.table) i }
     {
-        if i < self.table.count() {
-            Some(self.table.at(i))
-        } else {
-            None
-        }
+        self.table.at(i)
     }
 
     // Adds a pair or replaces the one of its key; false, and no change, where the catalogue does not admit it.
+    // kept: the answer is a bool, as a set's `insert` gives one: there is one way only to fail.
     pub fn lay(&mut self, pair: Pair) -> bool
         ensures answer { result ≡ admitted pair }
         ensures pairs { pairs_in self.new.table ≡ (if admitted pair then with_pair pair (pairs_in self.old.table) else pairs_in self.old.table) }
@@ -64,8 +62,7 @@ impl Pairs {
     pub(crate) fn overlay(&mut self, other: &Pairs)
         ensures { pairs_in self.new.table ≡ merged (pairs_in self.old.table) (pairs_in other.now.table) }
     {
-        for i in 0..other.table.count() {
-            let pair = other.table.at(i);
+        for pair in other {
             let _ = self.lay(pair);
         }
     }

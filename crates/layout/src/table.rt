@@ -1,7 +1,8 @@
 // Keys and values side by side in two arrays of 13 places, of which the first `len` are in use.
-ghost use Rattle.std.specs.Prelude.{◌≡◌, ℕ, ◌+◌, ◌<◌, ◌≤◌, [], length, take, slice_index_or, slice_set};
-ghost use Rattle.std.specs.List.{insert};
-ghost use Rattle.layout.specs.PairLists.{no_pair, place_of, value_of, with_pair};
+// kept: two arrays, a length and no invariant of its own, the project's form of a list of pairs (docs/DECISIONS.md); so each method that needs `len ≤ 13` asks for it.
+ghost use Rattle.std.specs.Prelude.{◌≡◌, ◌+◌, ◌<◌, ◌≤◌, [], length, take, slice_set};
+ghost use Rattle.std.specs.List.{insert, slice_get};
+ghost use Rattle.layout.specs.PairLists.{place_of, value_of, with_pair};
 ghost use Rattle.layout.specs.Tables.{pairs_in};
 
 use crate::meanings::Pair;
@@ -19,9 +20,7 @@ fn insert_at<T: Copy>(xs: &mut [T], len: usize, at: usize, x: T)
     requires room { len < length xs.old }
     ensures { take (len + 1) xs.new ≡ insert (take len xs.old) at x }
 {
-    for i in (at..len).rev() {
-        xs[i + 1] = xs[i];
-    }
+    xs.copy_within(at..len, at + 1);
     xs[at] = x;
 }
 
@@ -41,24 +40,21 @@ impl Table {
         requires { self.now.len ≤ 13 }
         ensures { result ≡ place_of key (take self.now.len self.now.keys) }
     {
-        for i in 0..self.len {
-            if self.keys[i] >= key {
-                return i;
-            }
-        }
-        self.len
+        self.keys[..self.len]
+            .iter()
+            .take_while(|k| **k < key)
+            .count()
     }
 
     pub(crate) fn find(&self, key: u8) -> Option<i32>
         requires { self.now.len ≤ 13 }
         ensures { result ≡ value_of (pairs_in self.now) key }
     {
-        for i in 0..self.len {
-            if self.keys[i] == key {
-                return Some(self.values[i]);
-            }
-        }
-        None
+        self.keys[..self.len]
+            .iter()
+            .zip(&self.values[..self.len])
+            .find(|(k, _)| **k == key)
+            .map(|(_, value)| *value)
     }
 
     pub(crate) fn insert(&mut self, at: usize, pair: Pair)
@@ -86,21 +82,20 @@ impl Table {
     pub(crate) fn count(&self) -> usize
         requires { self.now.len ≤ 13 }
         ensures pairs { result ≡ length (pairs_in self.now) }
-        ensures len { result ≡ self.now.len }
+        ensures few { result ≤ 13 }
     {
         self.len
     }
 
     // The pair at a place.
-    pub(crate) fn at(&self, i: usize) -> Pair
-        requires few { self.now.len ≤ 13 }
-        requires within { i < self.now.len }
-        ensures { result ≡ slice_index_or (pairs_in self.now) i no_pair }
+    pub(crate) fn at(&self, i: usize) -> Option<Pair>
+        requires { self.now.len ≤ 13 }
+        ensures { result ≡ slice_get (pairs_in self.now) i }
     {
-        Pair {
+        (i < self.len).then(|| Pair {
             key: self.keys[i],
             value: self.values[i],
-        }
+        })
     }
 
     // Adds a pair at its place in the order, or replaces the one of its key.

@@ -49,6 +49,17 @@ mod tests {
     }
 
     #[test]
+    fn pairs_one_after_the_other(rt: HostRuntime) {
+        let mut pairs = Pairs::new();
+        assert!(rt; pairs.lay(pair(9, -2)));
+        assert!(rt; pairs.lay(pair(2, 7)));
+        let mut left = pairs.iter();
+        assert_eq!(rt; left.next(), Some(pair(2, 7)));
+        assert_eq!(rt; left.next(), Some(pair(9, -2)));
+        assert_eq!(rt; left.next(), None);
+    }
+
+    #[test]
     fn units_say_what_was_written(rt: HostRuntime) {
         let record = encode_record(pair(9, -32768));
         assert_eq!(rt;

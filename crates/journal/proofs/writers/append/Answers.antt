@@ -1,33 +1,34 @@
-use Rattle.std.proofs.Common.{ℕ, [], ◌∷◌, Err, refl, ap, ◌∙◌, subst, arith}
+use Rattle.std.proofs.Common.{◌≡◌, ℕ, [], ◌∷◌, Err, Result, sym, refl, ap, ◌∙◌, subst, rules}
 use Rattle.flash.specs.Seen.{seen}
 use Rattle.layout.specs.Codec.{commit_value}
 use Rattle.layout.specs.Held.{pairs_of}
-use Rattle.layout.proofs.WellFormed.{well_formed_few}
-use Rattle.journal.specs.Commit.{records}
+use Rattle.journal.specs.Commit.{records, appending}
 use Rattle.journal.specs.Writes.{Performed, program}
 use Rattle.journal.proofs.Performing.{appending_is, program_performed, performed_append, performed_short}
 use Rattle.journal.proofs.writers.append.Goals as goal
 
-pub overflow_cast-len : goal.overflow_cast-len
-overflow_cast-len g c = record { fits = omega (arith, c.len.ensures, well_formed_few (pairs_of c.args.change.now) c.args.change.now.ok) }
-
-pub returns-in-Ok : goal.returns-in-Ok
-returns-in-Ok g c =
+pub returns-in_err-at : goal.returns-in_err-at
+returns-in_err-at g c =
     let ps = pairs_of c.args.change.now in
+    let t = g.F.Fault.FlashFault in
+    let s = seen g.F.Flash c.args.flash.now in
+    let s' = seen g.F.Flash c.program_records.new.flash in
+    let e = c.in_err-at.field-0.0 in
+    let is : c.from_residual.result ≡ Err e = search rules in
+    subst (λ (r : Result (Unit {0}) g.row.F-Fault.Denot). Performed t (appending c.args.standing.now.bank c.args.standing.now.end ps c.args.number) s s' r) (sym is)
+    (subst (λ ws. Performed {A = Unit {0}} t ws s s' (Err e)) (appending_is c.args.standing.now.bank c.args.standing.now.end _ _ ps c.args.number refl refl)
+    (performed_short t ℕ (Unit {0}) (records c.args.standing.now.bank c.args.standing.now.end ps) _ s s' e c.in_err-at.ensures.writes))
+
+pub returns : goal.returns
+returns g c =
+    let ps = pairs_of c.args.change.now in
+    let t = g.F.Fault.FlashFault in
     let s = seen g.F.Flash c.args.flash.now in
     let m = seen g.F.Flash c.program_records.new.flash in
     let s' = seen g.F.Flash c.program.new.self in
     let v = c.encode_commit.result in
-    let e = appending_is c.args.bank c.args.end c.in-Ok.at v ps c.args.number c.in-Ok.ensures.next
-    (c.encode_commit.ensures.value ∙ ap (λ k. commit_value k c.args.number) c.len.ensures) in
-    subst (λ ws. Performed g.F.Fault.FlashFault ws s s' c.program.result) e
-    (performed_append g.F.Fault.FlashFault (records c.args.bank c.args.end ps) (program c.args.bank c.in-Ok.at v ∷ []) s m s' c.in-Ok.at c.program.result
-    c.in-Ok.ensures.writes (program_performed g.F.Fault.FlashFault m c.args.bank c.in-Ok.at v s' c.program.result c.program.ensures.programs))
-
-pub returns-in-Err : goal.returns-in-Err
-returns-in-Err g c =
-    let ps = pairs_of c.args.change.now in
-    let s = seen g.F.Flash c.args.flash.now in
-    let s' = seen g.F.Flash c.program_records.new.flash in
-    subst (λ ws. Performed {A = Unit {0}} g.F.Fault.FlashFault ws s s' (Err c.in-Err.fault)) (appending_is c.args.bank c.args.end _ _ ps c.args.number refl refl)
-    (performed_short g.F.Fault.FlashFault ℕ (Unit {0}) (records c.args.bank c.args.end ps) _ s s' c.in-Err.fault c.in-Err.ensures.writes)
+    let e = appending_is c.args.standing.now.bank c.args.standing.now.end c.in_ok-at.at v ps c.args.number c.in_ok-at.ensures.next
+    (c.encode_commit.ensures.value ∙ ap (λ k. commit_value k c.args.number) c.len.ensures.len) in
+    subst (λ ws. Performed t ws s s' c.program.result) e
+    (performed_append t (records c.args.standing.now.bank c.args.standing.now.end ps) (program c.args.standing.now.bank c.in_ok-at.at v ∷ []) s m s' c.in_ok-at.at c.program.result
+    c.in_ok-at.ensures.writes (program_performed t m c.args.standing.now.bank c.in_ok-at.at v s' c.program.result c.program.ensures.programs))

@@ -1,20 +1,19 @@
-use Rattle.std.proofs.Common.{◌≡◌, ◌+◌, ◌-◌, sym, ap, ◌∙◌, arith, w32, SFits, rules}
+use Rattle.std.proofs.Common.{◌==◌, ◌&&◌, ◌∙◌, w32, SFits, rules}
 use Rattle.std.proofs.lemmas.Int.{to_z-of_z}
-use Rattle.layout.specs.Catalogue.{limits, within}
-use Rattle.layout.specs.Rows.{row_says}
-use Rattle.layout.proofs.Rows.{admits_key, admits_other, key_above}
+use Rattle.std.proofs.lemmas.Iterator.{YieldsList-from_slice}
+use Rattle.std.proofs.lemmas.Iterator.Search.{any_from_yields_List}
+use borrow.Author.Tests.{tests}
+use Rattle.layout.specs.Catalogue.{names, within, admits}
+use Rattle.layout.specs.Rows.{limits_of}
+use Rattle.layout.specs.declared.catalogue.Row.{Row}
+use Rattle.layout.proofs.Rows.{rows_admit}
 use Rattle.layout.proofs.catalogue.admits.Goals as goal
 
-pub returns-then-not-is_key : goal.returns-then-not-is_key
-returns-then-not-is_key c = sym (admits_other c.args.pair (sym c.if-not-is_key.ensures))
-
 pub returns : goal.returns
+unfolding admits
 returns c =
     let p = c.args.pair in
     let f : SFits w32 p.value = search rules in
-    let t = sym c.if-not-is_key.ensures in
-    let b = key_above p.key t in
-    let e : p.key - 1 + 1 ≡ p.key = omega arith in
-    let l : (row_says c.row_at-row.result).2 ≡ limits p.key = ap (λ s. s.2) c.row_at-row.ensures ∙ ap limits e in
-    c.is_within.ensures ∙ ap (λ z. within (row_says c.row_at-row.result).2 z) (to_z-of_z w32 p.value f)
-    ∙ ap (λ m. within m p.value) l ∙ sym (admits_key p t)
+    let z = to_z-of_z w32 p.value f in
+    let some = any_from_yields_List (λ (r : Row). r.key == p.key && within (limits_of r.limits) p.value) c.any.new.self _ c.any.result c.any.ensures.ran (YieldsList-from_slice c.rows.result.now cc) (λ x b q k. search (rules, tests, z)) in
+    some ∙ rows_admit c.rows.result.now 0 names p c.rows.ensures.all

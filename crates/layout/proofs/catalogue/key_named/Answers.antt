@@ -1,25 +1,18 @@
-use Rattle.std.proofs.Common.{◌≡◌, [], get_or, sym, refl, ap, ◌∙◌, arith}
-use Rattle.std.proofs.lemmas.Bool.{both_ways}
-use Rattle.std.proofs.lemmas.Slice.Eq.{bytes_eq-Decides}
+use Rattle.std.proofs.Common.{◌≡◌, option_map, ap, ◌∙◌, rules}
+use Rattle.std.specs.Option.{option_map_or}
+use Rattle.std.specs.Str.{bytes_eq}
+use Rattle.std.proofs.lemmas.Iterator.{YieldsList-from_slice}
+use Rattle.std.proofs.lemmas.Iterator.Search.{find_from_yields_List}
+use borrow.Author.Tests.{tests}
 use Rattle.layout.specs.Catalogue.{names, key_named}
-use Rattle.layout.proofs.Names.{name_again, name_found, name_none}
+use Rattle.layout.specs.declared.catalogue.Row.{Row}
+use Rattle.layout.proofs.Rows.{rows_name}
 use Rattle.layout.proofs.catalogue.key_named.Goals as goal
 
-pub loop-i-init : goal.loop-i-init
-unfolding key_named
-loop-i-init c = refl
-
-pub loop-i-preserved : goal.loop-i-preserved
-loop-i-preserved c =
-    let n : c.row_at-row.result.name.now ≡ get_or names c.loop-i.i [] = ap (λ s. s.1) c.row_at-row.ensures in
-    c.loop-i.invariant ∙ name_again names c.args.name.now c.loop-i.i (omega arith)
-    (λ e. both_ways c.eq.result c.if-eq.false (c.eq.ensures ∙ (bytes_eq-Decides c.row_at-row.result.name.now c.args.name.now).1 (n ∙ e)))
-
-pub returns-then-eq : goal.returns-then-eq
-returns-then-eq c =
-    let n : c.row_at-row.result.name.now ≡ get_or names c.loop-i.i [] = ap (λ s. s.1) c.row_at-row.ensures in
-    ap (λ s. s.0) c.row_at-row.ensures
-    ∙ sym (c.loop-i.invariant ∙ name_found names c.args.name.now c.loop-i.i (omega arith) (sym n ∙ (bytes_eq-Decides c.row_at-row.result.name.now c.args.name.now).0 (sym c.eq.ensures ∙ c.if-eq.true)))
-
 pub returns : goal.returns
-returns c = sym (c.loop-i.invariant ∙ name_none names c.args.name.now c.loop-i.i (omega arith))
+unfolding key_named
+returns c =
+    let found = find_from_yields_List (λ (r : Row). bytes_eq r.name.now c.args.name.now) c.find.new.self _ c.find.result c.find.ensures.ran (YieldsList-from_slice c.rows.result.now cc) (λ x b q k. search (rules, tests)) in
+    let key : c.map_or.result ≡ option_map_or (λ (r : Row). r.key) (option_map (λ r. r.now) c.find.result) 0 = search rules in
+    key ∙ ap (λ o. option_map_or (λ (r : Row). r.key) o 0) found
+    ∙ rows_name c.rows.result.now 0 names c.args.name.now c.rows.ensures.all

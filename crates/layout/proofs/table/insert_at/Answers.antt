@@ -1,20 +1,30 @@
-use Rattle.std.proofs.Common.{◌≡◌, ◌+◌, ◌-◌, subst, arith}
-use Rattle.layout.proofs.Moves.{Moved, moved_none, moved_more, moved_all}
+use Rattle.std.proofs.Common.{◌≡◌, ℕ, ◌+◌, ◌-◌, ◌<◌, ◌≤◌, List, [], ◌∷◌, length, take, drop, set, get_or, ap, ◌∙◌, length-drop, arith}
+use Rattle.std.specs.List.{insert}
+use lib.Seq.{paste}
+use Rattle.std.proofs.Math.Seq.{take-set-lt, set-append_seam}
+use Rattle.std.proofs.lemmas.List.{take_more, length-take-le, append_assoc, drop-take, take-take}
+use Rattle.std.proofs.lemmas.List.Edits.{take-paste}
 use Rattle.layout.proofs.table.insert_at.Goals as goal
 
-pub loop-i-init : goal.loop-i-init
-loop-i-init g c = (c.requires.within, moved_none c.args.xs.now c.args.len)
-
-pub loop-i-preserved : goal.loop-i-preserved
-loop-i-preserved g c =
-    let e : c.loop-i.i ≡ c.loop-i.i - 1 + 1 = omega arith in (
-      omega arith,
-      moved_more c.args.xs.now c.loop-i.xs (c.loop-i.i - 1) c.args.len c.index-xs-i.result
-          (subst (λ i. Moved c.args.xs.now c.loop-i.xs i c.args.len) e c.loop-i.invariant.1) (omega arith) c.requires.room c.index-xs-i.is,
-    )
+-- the first places, after those from i to n were copied up by one and x was put at i
+inserted : {X : Type 0} (xs : List X) (i n : ℕ) (x : X) → i ≤ n → n < length xs →
+    take (n + 1) (set (paste xs (i + 1) (drop i xs) (n - i)) i x) ≡ insert (take n xs) i x
+inserted xs i n x le lt =
+    let m = n - i in
+    let ys = take m (drop i xs) in
+    let whole : i + m ≡ n = omega arith in
+    let more : n + 1 ≡ i + 1 + m = omega arith in
+    let a = take-set-lt (n + 1) (paste xs (i + 1) (drop i xs) m) i x (omega arith) in
+    let b = take-paste xs (i + 1) (drop i xs) m (omega arith) (omega (arith, length-drop i xs)) in
+    let c = take_more xs i x (omega arith) in
+    let d = append_assoc (take i xs) (get_or xs i x ∷ []) ys in
+    let e = set-append_seam (take i xs) (get_or xs i x) ys x in
+    let l = length-take-le i xs (omega arith) in
+    let f = take-take i n xs le in
+    let g = drop-take i m xs in
+    cc
 
 pub returns : goal.returns
 returns g c =
-    let e : c.loop-i.i ≡ c.args.at = omega (arith, c.loop-i.invariant.0) in
-    moved_all c.args.xs.now c.loop-i.xs c.args.at c.args.len c.args.x
-    (subst (λ i. Moved c.args.xs.now c.loop-i.xs i c.args.len) e c.loop-i.invariant.1) c.requires.within c.requires.room
+    ap (λ xs. take (c.args.len + 1) (set xs c.args.at c.args.x)) c.copy_within.ensures.after
+    ∙ inserted c.args.xs.now c.args.at c.args.len c.args.x c.requires.within c.requires.room
