@@ -4,6 +4,7 @@ use borrow.Author.Differences.{ints}
 use Rattle.std.proofs.lemmas.Bool.{and_parts}
 use Rattle.compensation.specs.Ranges.{Between, Size}
 use Rattle.compensation.specs.Admitted.{admitted_set, signed_word, unsigned_word, oversampling, correction}
+use Rattle.compensation.specs.declared.calibration.Calibration.{Calibration}
 use Rattle.compensation.specs.declared.coefficients.Coefficients.{Coefficients}
 
 pub record Bounded (k : Coefficients) : Type 0 where
@@ -73,3 +74,7 @@ bounded k h =
       oss = samples k.oss oss.1;
       pcor = corrected k.pcor pcor.1;
     }
+
+-- the same of a set that the code has
+pub bounds : (c : Calibration) → Bounded c.values
+bounds c = bounded c.values c.admitted

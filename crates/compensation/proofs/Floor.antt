@@ -1,5 +1,5 @@
 -- Division rounded down: Rust's Euclidean division gives it at a positive divisor, and it is the quotient that its law says.
-use Rattle.std.proofs.Common.{◌≡◌, ℕ, suc, ◌+◌, ◌/◌, ◌<◌, ◌≤◌, ℤ, pos, negsuc, ◌-ℤ◌, neg_ℤ, nat_abs, ◌≤ℤ◌, ◌<ℤ◌, refl, ap, ◌∙◌, suc-mul, div-le_self, arith}
+use Rattle.std.proofs.Common.{◌≡◌, ℕ, suc, ◌+◌, ◌/◌, ◌<◌, ◌≤◌, ℤ, pos, negsuc, ◌-ℤ◌, neg_ℤ, nat_abs, ◌<ℤ◌, refl, ap, ◌∙◌, suc-mul, div-le_self, arith}
 use lib.Signed.{shr_z}
 use borrow.Author.Differences.{ints}
 use Rattle.std.proofs.lemmas.Nat.{div-add-mod', mod_below, le-div}
@@ -65,12 +65,6 @@ floor_abs a (negsuc b) = omega (arith, ints, shr_abs (neg_ℤ a) (suc b))
 -- a quotient is no larger than what is divided
 pub size_floor : (a b : ℤ) (m : ℕ) → Size m a → Size m (floor_div a b)
 size_floor a b m h = abs_size m (floor_div a b) (omega (arith, floor_abs a b, size_abs m a h))
-
-pub sign_floor : (a b : ℤ) → pos 0 ≤ℤ a → pos 0 <ℤ b → pos 0 ≤ℤ floor_div a b
-unfolding floor_div
-sign_floor (pos a) (pos b) p q = omega (arith, ints)
-sign_floor (negsuc a) b p q = absurd p.le
-sign_floor (pos a) (negsuc b) p q = absurd q.lt
 
 div_mono : (a m n : ℕ) → 0 < n → a ≤ m → a / n ≤ m / n
 div_mono a m n h p = le-div (a / n) m n h (omega (arith, div-add-mod' a n))

@@ -1,10 +1,10 @@
 -- What the definitions answer on each way through the code.
-use Rattle.std.proofs.Common.{◌≡◌, ℤ, pos, ◌+ℤ◌, ◌-ℤ◌, ◌≤ℤ◌, ◌<ℤ◌, Err}
+use Rattle.std.proofs.Common.{◌≡◌, ℤ, pos, ◌+ℤ◌, ◌-ℤ◌, ◌≤ℤ◌, ◌<ℤ◌, Ok, Err}
 use Rattle.compensation.specs.declared.coefficients.Coefficients.{Coefficients}
 use Rattle.compensation.specs.declared.readings.Balance.{Balance}
-use Rattle.compensation.specs.declared.readings.ReadingRefusal.TheVariants.{RawValue, Temperature}
-use Rattle.compensation.specs.Formulas.{x1_of, x2_of, temperature_from_x2, temperature_at, samples_of, b7_of, balance_of, pressure_from_b7, pressure_from_balance, up_limit_of, pressure_of}
-use Rattle.compensation.proofs.Ranges.{is_zero, not_zero, both, first_fails, second_fails}
+use Rattle.compensation.specs.declared.readings.ReadingRefusal.TheVariants.{Temperature}
+use Rattle.compensation.specs.Formulas.{x1_of, x2_of, temperature_from_x2, temperature_at, samples_of, b7_of, p_of, pa_of, balance_of, pressure_from_b7, pressure_from_balance, up_limit_of, pressure_of}
+use Rattle.compensation.proofs.Ranges.{is_zero, not_zero, at_most, both}
 
 module _ (k : Coefficients) (ut x1 : ℤ) (e : x1 ≡ x1_of ut k.ac5 k.ac6) where
   pub divisor_zero : x1 +ℤ k.md ≡ pos 0 → temperature_at k ut ≡ Err Temperature
@@ -21,12 +21,10 @@ pub judged : (k : Coefficients) (from : Balance) (up : ℤ) → from.b3 ≤ℤ u
     → pressure_from_balance k from up ≡ pressure_from_b7 from (b7_of up from.b3 (samples_of k.oss)) k.pcor
 judged k from up low above = rw (both from.b3 up (pos 0) from.b4 low above)
 
+pub limited : (from : Balance) (b7 pcor p : ℤ) → p ≡ p_of b7 from.b4 → p ≤ℤ pos 1000000
+    → pressure_from_b7 from b7 pcor ≡ Ok (record { balance = from; b7 = b7; p = p; pa = pa_of p pcor })
+limited from b7 pcor p e h = rw (← e) (rw (at_most p (pos 1000000) h))
+
 module _ (k : Coefficients) (b5 up limit : ℤ) (e : limit ≡ up_limit_of k.oss) where
-  pub negative : up <ℤ pos 0 → pressure_of k b5 up ≡ Err RawValue
-  negative h = rw (first_fails (pos 0) up up (up_limit_of k.oss) h)
-
-  pub too_large : limit ≤ℤ up → pressure_of k b5 up ≡ Err RawValue
-  too_large h = rw (second_fails (pos 0) up up (up_limit_of k.oss) (rw e at h))
-
   pub read : pos 0 ≤ℤ up → up <ℤ limit → pressure_of k b5 up ≡ pressure_from_balance k (balance_of k (b5 -ℤ pos 4000)) up
   read low high = rw (both (pos 0) up up (up_limit_of k.oss) low (rw e at high))

@@ -1,5 +1,5 @@
--- Bounds of sums and differences, and the fit of a bounded number.
-use Rattle.std.proofs.Common.{ℕ, ◌+◌, ◌^◌, ◌<◌, ◌≤◌, ℤ, pos, ◌+ℤ◌, ◌-ℤ◌, arith, w64, SFits}
+-- Bounds of sums, and the fit of a bounded number.
+use Rattle.std.proofs.Common.{ℕ, ◌+◌, ◌^◌, ◌<◌, ◌≤◌, ℤ, pos, ◌+ℤ◌, arith, w64, SFits}
 use borrow.Author.Differences.{ints}
 use Rattle.compensation.specs.Ranges.{Between, Size}
 
@@ -9,14 +9,8 @@ widen m k z h s = omega (arith, ints)
 pub size_sum : (m k : ℕ) (a b : ℤ) → Size m a → Size k b → Size (m + k) (a +ℤ b)
 size_sum m k a b p q = omega (arith, ints)
 
-pub size_difference : (m k : ℕ) (a b : ℤ) → Size m a → Size k b → Size (m + k) (a -ℤ b)
-size_difference m k a b p q = omega (arith, ints)
-
 pub fits_size : (m : ℕ) (z : ℤ) → m < 2 ^ 63 → Size m z → SFits w64 z
 fits_size m z h s = omega (arith, ints)
-
-pub size_natural : (m : ℕ) (z : ℤ) → Between (pos 0) (pos m) z → Size m z
-size_natural m z h = omega (arith, ints)
 
 pub size_counted : (m : ℕ) (z : ℤ) → Between (pos 1) (pos m) z → Size m z
 size_counted m z h = omega (arith, ints)

@@ -5,40 +5,42 @@ ghost use Rattle.compensation.specs.Admitted.{admitted_set, signed_word, unsigne
 use crate::coefficients::Coefficients;
 
 // Coefficients each of which is in its range: the only way to a reading leads through such a set.
-#[derive(Clone, Copy)]
+#[derive(Clone, Copy, PartialEq, Eq, Debug)]
 pub struct Calibration {
     pub(crate) values: Coefficients,
     ghost admitted: { admitted_set values ≡ true },
 }
 
+// kept: four tests of a range, since each has a definition of its own and only the first has a gap.
 fn is_signed_word(z: i64) -> bool
     ensures { result ≡ signed_word z }
 {
-    z >= -32768 && z <= 32767 && !(z >= -1 && z <= 0)
+    (-32768..=32767).contains(&z) && !(-1..=0).contains(&z)
 }
 
 fn is_unsigned_word(z: i64) -> bool
     ensures { result ≡ unsigned_word z }
 {
-    z >= 1 && z <= 65534
+    (1..=65534).contains(&z)
 }
 
 fn is_oversampling(z: i64) -> bool
     ensures { result ≡ oversampling z }
 {
-    z >= 0 && z <= 3
+    (0..=3).contains(&z)
 }
 
 fn is_correction(z: i64) -> bool
     ensures { result ≡ correction z }
 {
-    z >= -500 && z <= 500
+    (-500..=500).contains(&z)
 }
 
 // Whether every coefficient is in its range.
 fn are_admitted(k: &Coefficients) -> bool
     ensures { result ≡ admitted_set k.now }
 {
+    // kept: `&`, which joins thirteen values; with `&&` the proof does not close alone, and a case for each of twelve branches is no plainer
     is_signed_word(k.ac1)
         & is_signed_word(k.ac2)
         & is_signed_word(k.ac3)

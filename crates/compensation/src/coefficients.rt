@@ -3,7 +3,7 @@
 // AC1 to MD by their names in the chip's datasheet; OSS, the oversampling setting (2^OSS samples for each pressure);
 // PCOR, a correction in Pa that is added to every pressure. OSS and PCOR are 0 where a chip has none of its own.
 // 64 bits, so that the formulas take them as they are.
-#[derive(Clone, Copy)]
+#[derive(Clone, Copy, PartialEq, Eq, Debug)]
 pub struct Coefficients {
     pub ac1: i64,
     pub ac2: i64,

@@ -1,10 +1,13 @@
 // What a reading gives: the values on the way by their names in the chip's datasheet, and the refusals.
-ghost use Rattle.std.specs.Prelude.{◌≡◌};
+ghost use Rattle.std.specs.Prelude.{◌≡◌, Some};
 ghost use Rattle.compensation.specs.Formulas.{checked_ut_of};
 ghost use Rattle.compensation.specs.Refusals.{refusal_number, refusal_meaning};
 
+use std::error::Error;
+use std::fmt;
+
 // A temperature, T in tenths of a degree, with the values that it was worked out by. B5 is what a pressure needs of it.
-#[derive(Clone, Copy)]
+#[derive(Clone, Copy, PartialEq, Eq, Debug)]
 pub struct WorkedTemperature {
     pub x1: i64,
     pub x2: i64,
@@ -13,7 +16,7 @@ pub struct WorkedTemperature {
 }
 
 // What the temperature alone makes of the coefficients: the offset B3 and the gain B4 of a pressure, and the values on the way.
-#[derive(Clone, Copy)]
+#[derive(Clone, Copy, PartialEq, Eq, Debug)]
 pub struct Balance {
     pub b6: i64,
     pub s: i64,
@@ -24,7 +27,7 @@ pub struct Balance {
 }
 
 // A pressure, `pa` in Pa, with the values that it was worked out by. `p` is the pressure before its last correction.
-#[derive(Clone, Copy)]
+#[derive(Clone, Copy, PartialEq, Eq, Debug)]
 pub struct WorkedPressure {
     pub balance: Balance,
     pub b7: i64,
@@ -45,6 +48,7 @@ pub enum ReadingRefusal {
 
 impl ReadingRefusal {
     // The number by which the refusal is known.
+    // kept: a match; as discriminants of the enum a number given twice would not compile, and the edit that gives one twice could show nothing
     pub fn number(self) -> u8
         ensures { result ≡ refusal_number self }
     {
@@ -67,12 +71,20 @@ impl ReadingRefusal {
     }
 }
 
+// A refusal as text is its meaning.
+impl fmt::Display for ReadingRefusal {
+    ghost output = { λ refusal. Some (refusal_meaning refusal) };
+
+    fn fmt<W: fmt::Write>(&self, f: &mut fmt::Formatter<W>) -> fmt::Result {
+        f.write_str(self.meaning())
+    }
+}
+
+impl Error for ReadingRefusal {}
+
 // UT as the chip's 16 bits. It needs no coefficient, so that a caller may judge it before it gathers them.
 pub fn checked_ut(ut: i32) -> Result<u16, ReadingRefusal>
     ensures { result ≡ checked_ut_of ut }
 {
-    match u16::try_from(ut) {
-        Ok(ut) => Ok(ut),
-        Err(_) => Err(ReadingRefusal::RawValue),
-    }
+    u16::try_from(ut).map_err(|_| ReadingRefusal::RawValue)
 }

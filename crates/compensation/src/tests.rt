@@ -14,16 +14,9 @@ fn negative_gain_is_refused(rt: HostRuntime) -> Result<(), Fail> {
         b1: -32768,
         ..example_calibration().values()
     };
-    let Some(k) = Calibration::new(values) else {
-        return Err(Fail::new("not admitted"));
-    };
-    match k.pressure(-32768, 23843) {
-        Err(refusal) => {
-            assert_eq!(rt; refusal, ReadingRefusal::Pressure);
-            Ok(())
-        },
-        Ok(_) => Err(Fail::new("a pressure with a gain below 0")),
-    }
+    let k = Calibration::new(values).ok_or_else(|| Fail::new("not admitted"))?;
+    assert_eq!(rt; k.pressure(-32768, 23843), Err(ReadingRefusal::Pressure));
+    Ok(())
 }
 
 #[test]

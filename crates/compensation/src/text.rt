@@ -7,7 +7,7 @@ use crate::division::floor_over;
 use std::fmt;
 
 // A number of tenths, printed with one decimal.
-#[derive(Clone, Copy)]
+#[derive(Clone, Copy, PartialEq, Eq, Debug)]
 pub struct Tenths(pub i32);
 
 impl fmt::Display for Tenths {
@@ -29,7 +29,7 @@ impl fmt::Display for Tenths {
 pub fn degrees(t: i16) -> Tenths
     ensures { result.0 ≡ t }
 {
-    Tenths(t as i32)
+    Tenths(i32::from(t))
 }
 
 // P, in Pa, as it is printed: tenths of a hectopascal, the rest cut off downward by the law of ÷.
@@ -37,5 +37,6 @@ pub fn hectopascals(pa: i32) -> Tenths
     ensures value { result.0 ≡ floor_div pa (pos 10) }
     ensures division { DivisionLaw }
 {
-    Tenths(floor_over(pa as i64, 10) as i32)
+    // kept: `as`, proved to fit; `try_from` would answer an error that cannot come.
+    Tenths(floor_over(i64::from(pa), 10) as i32)
 }

@@ -10,38 +10,63 @@ use std::io::{BufRead, BufReader};
 // Thirteen coefficients and two raw values.
 const COLUMNS: usize = 15;
 
-fn numbers(line: &str) -> Option<[i64; COLUMNS]> {
-    let mut row = [0i64; COLUMNS];
-    let mut count: usize = 0;
-    for word in line.split(',') {
-        if count >= COLUMNS {
-            return None;
-        }
-        let Ok(z) = word.parse::<i64>() else {
-            return None;
-        };
-        row[count] = z;
-        count += 1;
-    }
-    if count == COLUMNS { Some(row) } else { None }
+// A line that is a reading.
+#[derive(Clone, Copy)]
+struct Reading {
+    coefficients: Coefficients,
+    ut: i32,
+    up: i32,
 }
 
-fn coefficients(row: &[i64; COLUMNS]) -> Coefficients {
-    Coefficients {
-        ac1: row[0],
-        ac2: row[1],
-        ac3: row[2],
-        ac4: row[3],
-        ac5: row[4],
-        ac6: row[5],
-        b1: row[6],
-        b2: row[7],
-        mb: row[8],
-        mc: row[9],
-        md: row[10],
-        oss: row[11],
-        pcor: row[12],
+fn numbers(line: &str) -> Option<[i64; COLUMNS]> {
+    let mut row = [0; COLUMNS];
+    let mut words = line.split(',');
+    for z in &mut row {
+        *z = words.next()?.parse().ok()?;
     }
+    if words.next().is_some() {
+        return None;
+    }
+    Some(row)
+}
+
+fn parsed(line: &str) -> Option<Reading> {
+    let [
+        ac1,
+        ac2,
+        ac3,
+        ac4,
+        ac5,
+        ac6,
+        b1,
+        b2,
+        mb,
+        mc,
+        md,
+        oss,
+        pcor,
+        ut,
+        up,
+    ] = numbers(line)?;
+    Some(Reading {
+        coefficients: Coefficients {
+            ac1,
+            ac2,
+            ac3,
+            ac4,
+            ac5,
+            ac6,
+            b1,
+            b2,
+            mb,
+            mc,
+            md,
+            oss,
+            pcor,
+        },
+        ut: i32::try_from(ut).ok()?,
+        up: i32::try_from(up).ok()?,
+    })
 }
 
 fn show(rt: &impl Print, line: &str, k: &Calibration, ut: i32, up: i32) -> anyhow::Result<()> {
@@ -60,16 +85,12 @@ fn show(rt: &impl Print, line: &str, k: &Calibration, ut: i32, up: i32) -> anyho
 }
 
 fn answer(rt: &impl Print, line: &str) -> anyhow::Result<()> {
-    let Some(row) = numbers(line) else {
+    let Some(reading) = parsed(line) else {
         println!(rt; "{line}: not a reading")?;
         return Ok(());
     };
-    let (Ok(ut), Ok(up)) = (i32::try_from(row[13]), i32::try_from(row[14])) else {
-        println!(rt; "{line}: not a reading")?;
-        return Ok(());
-    };
-    match Calibration::new(coefficients(&row)) {
-        Some(k) => show(rt, line, &k, ut, up),
+    match Calibration::new(reading.coefficients) {
+        Some(k) => show(rt, line, &k, reading.ut, reading.up),
         None => {
             println!(rt; "{line}: a coefficient outside its range")?;
             Ok(())

@@ -61,11 +61,7 @@ fn show_pressure(rt: &impl Print, up: i32, w: WorkedPressure) -> anyhow::Result<
 fn show_refused(rt: &impl Print, up: i32, refusal: ReadingRefusal) -> anyhow::Result<()> {
     println!(rt; "")?;
     println!(rt; "The same with UP {up}")?;
-    println!(rt;
-        "  Refused with {}: {}.",
-        refusal.number(),
-        refusal.meaning()
-    )?;
+    println!(rt; "  Refused with {}: {refusal}.", refusal.number())?;
     Ok(())
 }
 
@@ -80,10 +76,7 @@ fn try_pressure(rt: &impl Print, k: &Calibration, b5: i16, up: i32) -> anyhow::R
 fn run(rt: &impl Print) -> anyhow::Result<()> {
     let k = example_calibration();
     show_coefficients(rt, k.values())?;
-    let w = match k.temperature(UT) {
-        Ok(w) => w,
-        Err(refusal) => return Err(anyhow::Error::msg(refusal.meaning())),
-    };
+    let w = k.temperature(UT)?;
     show_temperature(rt, UT, w)?;
     try_pressure(rt, &k, w.b5, UP)?;
     try_pressure(rt, &k, w.b5, UP_TOO_LARGE)

@@ -1,19 +1,15 @@
 use Rattle.std.proofs.Common.{pos, ◌-ℤ◌, ◌<ℤ◌, ◌∙◌, arith, w64, SFits}
 use Rattle.std.proofs.lemmas.Int.{ints, to_z-of_z}
 use Rattle.compensation.proofs.division.floor_div.Goals as goal
-use Rattle.compensation.proofs.Floor.{over_negative, size_floor, sign_floor}
+use Rattle.compensation.proofs.Floor.{over_negative, size_floor}
 
-pub returns-then-d-gt0 : goal.returns-then-d-gt0
-returns-then-d-gt0 c =
+pub returns-then-d-gt0-clause-bound : goal.returns-then-d-gt0-clause-bound
+returns-then-d-gt0-clause-bound c =
     let fn = c.ranges.n in
     let fd = c.ranges.d in
     let fr : SFits w64 c.floor_over.result = record { sfits = c.floor_over.type_inv } in
     let v = simp to_z-of_z at c.floor_over.ensures.value in
-    record {
-      value = simp to_z-of_z v;
-      bound = λ m p. simp to_z-of_z (rw v (size_floor c.args.n c.args.d m p));
-      sign = λ p q. simp to_z-of_z (rw v (sign_floor c.args.n c.args.d p q));
-    }
+    λ m p. simp to_z-of_z (rw v (size_floor c.args.n c.args.d m p))
 
 pub returns-else-d-gt0 : goal.returns-else-d-gt0
 returns-else-d-gt0 c =

@@ -1,6 +1,5 @@
-use Rattle.std.proofs.Common.{◌≡◌, w64, SFits}
+use Rattle.std.proofs.Common.{◌∙◌, w64, SFits}
 use Rattle.std.proofs.lemmas.Int.{to_z-of_z}
-use Rattle.compensation.specs.Division.{floor_div}
 use Rattle.compensation.proofs.division.floor_over.Goals as goal
 use Rattle.compensation.proofs.Floor.{over_positive, above, bound_floor}
 
@@ -9,9 +8,8 @@ returns c =
     let fa = c.ranges.n in
     let fn = c.ranges.d in
     let fr : SFits w64 c.euclidean.result = record { sfits = c.euclidean.type_inv } in
-    let e = over_positive c.args.n c.args.d c.requires in
     let u = simp to_z-of_z at c.euclidean.ensures in
-    let v : c.euclidean.result ≡ floor_div c.args.n c.args.d = cc in
+    let v = u ∙ over_positive c.args.n c.args.d c.requires in
     let law = above c.args.n c.args.d c.requires in
     record {
       value = simp to_z-of_z v;

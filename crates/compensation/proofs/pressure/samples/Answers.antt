@@ -1,20 +1,18 @@
-use Rattle.std.proofs.Common.{◌≡◌, pos, arith}
+use Rattle.std.proofs.Common.{◌≡◌, zero, suc, ◌*◌, ◌%◌, ◌^◌, ℤ, pos, negsuc, refl, arith, w64, to_z, of_z}
 use Rattle.std.proofs.lemmas.Int.{ints}
 use Rattle.compensation.specs.Formulas.{samples_of}
+use Rattle.compensation.specs.Ranges.{Between}
 use Rattle.compensation.proofs.pressure.samples.Goals as goal
 
-pub returns-then-oss-eq0 : goal.returns-then-oss-eq0
+-- 1 shifted by up to three places is 2^OSS, 1 to 8
+shifted : (z : ℤ) → Between (pos 0) (pos 3) z → (to_z w64 (1 * 2 ^ of_z w64 z % 2 ^ 64) ≡ samples_of z) × Between (pos 1) (pos 8) (samples_of z)
 unfolding samples_of
-returns-then-oss-eq0 c = let e : c.args.oss ≡ pos 0 = omega (arith, ints) in record { value = rw e; range = omega (arith, ints) }
+shifted (pos zero) h = (refl, (omega (arith, ints), omega (arith, ints)))
+shifted (pos (suc zero)) h = (refl, (omega (arith, ints), omega (arith, ints)))
+shifted (pos (suc (suc zero))) h = (refl, (omega (arith, ints), omega (arith, ints)))
+shifted (pos (suc (suc (suc zero)))) h = (refl, (omega (arith, ints), omega (arith, ints)))
+shifted (pos (suc (suc (suc (suc n))))) h = absurd (omega (arith, ints))
+shifted (negsuc n) h = absurd (omega (arith, ints))
 
-pub returns-then-oss-eq1 : goal.returns-then-oss-eq1
-unfolding samples_of
-returns-then-oss-eq1 c = let e : c.args.oss ≡ pos 1 = omega (arith, ints) in record { value = rw e; range = omega (arith, ints) }
-
-pub returns-then-oss-eq2 : goal.returns-then-oss-eq2
-unfolding samples_of
-returns-then-oss-eq2 c = let e : c.args.oss ≡ pos 2 = omega (arith, ints) in record { value = rw e; range = omega (arith, ints) }
-
-pub returns-else-oss-eq2 : goal.returns-else-oss-eq2
-unfolding samples_of
-returns-else-oss-eq2 c = let e : c.args.oss ≡ pos 3 = omega (arith, ints) in record { value = rw e; range = omega (arith, ints) }
+pub returns : goal.returns
+returns c = let s = shifted c.args.oss c.requires in record { value = s.0; range = rw s.0 s.1 }

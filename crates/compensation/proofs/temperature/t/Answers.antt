@@ -3,8 +3,8 @@ use Rattle.std.proofs.lemmas.Int.{ints, to_z-of_z}
 use Rattle.compensation.specs.Formulas.{t_of}
 use Rattle.compensation.proofs.temperature.t.Goals as goal
 
-pub returns : goal.returns
+pub returns-clause-value : goal.returns-clause-value
 unfolding t_of
-returns c =
+returns-clause-value c =
     let f : SFits w64 (c.args.b5 +ℤ pos 8) = omega (arith, ints) in
-    record { value = search (arith, ints, to_z-of_z, c.floor_over.ensures.value); low = omega (arith, ints); high = omega (arith, ints) }
+    search (arith, ints, to_z-of_z, c.floor_over.ensures.value)
