@@ -3,11 +3,12 @@
 // on, is something that no contract over any flash can see; here each power-up brings its own charge, and the cuts show it.
 #![tactic(auto)]
 
-use anyhow::anyhow;
+use anyhow::Context;
 use compensation::datasheet::{UP, UT};
 use compensation::text::{degrees, hectopascals};
 use figures::example::example_pairs;
 use flash::units::Unit;
+use layout::meanings::Pair;
 use runs::requests::Request;
 use runs::rooms::Room;
 use runs::running::make_calls;
@@ -37,9 +38,9 @@ const CHARGES: [u32; 5] = [3 + 12 + 5, 12, 1, 100, 2];
 
 fn simulator(heap: Global) -> anyhow::Result<Simulator> {
     let table = vec![in heap; Unit::Blank; BANKS * UNITS]?;
-    let Ok(mut simulator) = Simulator::new(BANKS, UNITS, table) else {
-        return Err(anyhow!("no simulator"));
-    };
+    let mut simulator = Simulator::new(BANKS, UNITS, table)
+        .ok()
+        .context("no simulator")?;
     for charge in CHARGES {
         let _ = simulator.add_entry(Planned {
             charge,
@@ -54,15 +55,9 @@ fn simulator(heap: Global) -> anyhow::Result<Simulator> {
 fn ask_calibration(asked: &mut Vec<Request>, ticket: u32, ac1: i32) -> anyhow::Result<()> {
     let pairs = example_pairs();
     asked.push(Request::Begin)?;
-    for i in 0..pairs.len() {
-        if let Some(pair) = pairs.at(i) {
-            let value = if pair.key == AC1 { ac1 } else { pair.value };
-            asked.push(Request::Put {
-                ticket,
-                key: pair.key,
-                value,
-            })?;
-        }
+    for Pair { key, value } in &pairs {
+        let value = if key == AC1 { ac1 } else { value };
+        asked.push(Request::Put { ticket, key, value })?;
     }
     asked.push(Request::Commit { ticket })?;
     Ok(())
@@ -139,10 +134,7 @@ fn show_number(rt: &impl Print, what: &str, answer: Result<u32, Refusal>) -> any
 }
 
 fn name(key: u8) -> &'static str {
-    match NAMES.get(usize::from(key)) {
-        Some(name) => name,
-        None => "?",
-    }
+    NAMES.get(usize::from(key)).copied().unwrap_or("?")
 }
 
 fn show_units_call(rt: &impl Print, entry: Entry) -> anyhow::Result<()> {
@@ -230,7 +222,7 @@ fn run(rt: &HostRuntime) -> anyhow::Result<()> {
     let asked = requests(rt.alloc())?;
     let room = Room::new(rt.alloc(), asked.len())?;
     let log = make_calls(&mut store, &asked, room);
-    for outcome in log.iter() {
+    for outcome in &log {
         match *outcome {
             Some(entry) => {
                 show_units_call(rt, entry)?;

@@ -8,25 +8,27 @@ use compensation::calibration::Calibration;
 use compensation::coefficients::Coefficients;
 use layout::pairs::Pairs;
 
+// The lowest of the keys 1 to 11 that a list of pairs lacks.
+#[derive(Clone, Copy, PartialEq, Eq, Debug)]
+pub struct Absent {
+    pub key: u8,
+}
+
 // The lowest of the keys 1 to 11, AC1 to MD, that has no value.
 fn lowest_absent(pairs: &Pairs) -> Option<u8>
     ensures { result ≡ lowest_absent (pairs_of pairs.now) }
 {
-    for key in 1..=11 {
-        if pairs.value(key).is_none() {
-            return Some(key);
-        }
-    }
-    None
+    (1..12).find(|&key| pairs.value(key).is_none())
 }
 
 fn value_or_zero(pairs: &Pairs, key: u8) -> i64
     ensures { result ≡ or_zero (value_of (pairs_of pairs.now) key) }
 {
-    pairs.value(key).unwrap_or(0) as i64
+    i64::from(pairs.value(key).unwrap_or(0))
 }
 
 // The values by their keys. Only OSS and PCOR may be absent from a calibration; 0 is what they are then.
+#[tactic(auto, unfolding(crate::specs::Gathered::coefficients_of))]
 fn coefficients_of(pairs: &Pairs) -> Coefficients
     ensures { result ≡ coefficients_of (pairs_of pairs.now) }
 {
@@ -47,12 +49,12 @@ fn coefficients_of(pairs: &Pairs) -> Coefficients
     }
 }
 
-// The calibration that a list of pairs gives, or the lowest of the keys 1 to 11 that it lacks.
-pub fn gathered(pairs: &Pairs) -> Result<Calibration, u8>
-    ensures { MatchResult result (λ c. (lowest_absent (pairs_of pairs.now) ≡ None) × (c.values ≡ coefficients_of (pairs_of pairs.now))) (λ k. lowest_absent (pairs_of pairs.now) ≡ Some k) }
+// The calibration that a list of pairs gives, or which key it lacks.
+pub fn gathered(pairs: &Pairs) -> Result<Calibration, Absent>
+    ensures { MatchResult result (λ c. (lowest_absent (pairs_of pairs.now) ≡ None) × (c.values ≡ coefficients_of (pairs_of pairs.now))) (λ absent. lowest_absent (pairs_of pairs.now) ≡ Some absent.key) }
 {
     if let Some(key) = lowest_absent(pairs) {
-        return Err(key);
+        return Err(Absent { key });
     }
     // a list of pairs holds admitted values only, so they make a calibration
     Ok(Calibration::new(coefficients_of(pairs)).unwrap())

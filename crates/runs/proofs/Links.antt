@@ -37,9 +37,6 @@ linked_then : (m : Moment) (h : Held) (ks : List Link) (n : Moment) (i : Held) (
 linked_then m h [] n i js m' h' (e, f) l = subst (λ (x : Moment). Linked x h js m' h') e (subst (λ (x : Held). Linked n x js m' h') f l)
 linked_then m h (x ∷ ks) n i js m' h' (e, f) l = (e, linked_then x.after x.holds ks n i js m' h' f l)
 
-pub made_none : (m : Moment) (h : Held) (log : List (Option Entry)) → Made m h [] log log m h
-made_none m h log = record { links = []; asked = refl; logged = sym (append-nil log); linked = (refl, refl) }
-
 pub made_more : {m n : Moment} {h i : Held} {before after : List (Option Entry)} {requests : List Request} (q : Request) (o : Option Entry) (m' : Moment) (h' : Held)
     (requests' : List Request) (after' : List (Option Entry)) → Made m h requests before after n i → Turn n i q o m' h' → requests' ≡ requests ++ q ∷ [] → after' ≡ after ++ o ∷ [] →
     Made m h requests' before after' m' h'

@@ -14,7 +14,3 @@ pub taken_at : (ss : List (Option Step)) (i : ℕ) (o d after : Option Step) →
 taken_at ss i o d after h e none =
     by_result (step_numbers ss) (step_numbers (set ss i after)) i o (ap numbers_in e ∙ sym (get_or-map numbers_in ss i d None h))
     (map-set numbers_in ss i after ∙ ap (λ (x : Option Step). set (step_numbers ss) i (numbers_in x)) none)
-
--- there is none past the last
-pub none_past : (ss : List (Option Step)) (i : ℕ) → length ss ≤ i → StepTaken (step_numbers ss) i None (step_numbers ss)
-none_past ss i h = (get_or_past (step_numbers ss) i None (omega (arith, length-map ss numbers_in, h)), refl)

@@ -1,9 +1,10 @@
 // What a run holds between its calls: the tickets that it was given and has not handed back, and the steps that it was given, each
 // until it is used. Both tables have their room from the start, so that no ticket is ever lost for want of memory.
-ghost use Rattle.std.specs.Prelude.{◌≡◌, suc, ◌<◌, ◌≤◌, [], ◌∷◌, ◌++◌, Some, vec_len, vec_capacity};
-ghost use Rattle.runs.specs.Held.{Found, Seen, Taken, StepTaken, ticket_numbers, step_numbers};
+ghost use Rattle.std.specs.Prelude.{◌≡◌, ℕ, suc, ◌≤◌, [], ◌∷◌, ◌++◌, Some, vec_len};
+ghost use Rattle.runs.specs.Held.{Found, Seen, Taken, StepTaken, held};
+ghost use Rattle.runs.specs.Hands.{held_by, Spare};
 
-use store::steps::Step;
+use store::steps::{Step, StepNumbers};
 use store::tickets::Ticket;
 
 pub(crate) struct Hand {
@@ -15,61 +16,64 @@ pub(crate) struct Hand {
 fn find(tickets: &[Ticket], number: u32) -> Option<usize>
     ensures { Found tickets.now number result }
 {
-    for i in 0..tickets.len() {
-        if tickets[i].number() == number {
-            return Some(i);
-        }
+    tickets.iter().position(|ticket| ticket.number() == number)
+}
+
+impl Hand {
+    // The first ticket of this number.
+    pub(crate) fn look(&self, number: u32) -> Option<&Ticket>
+        ensures { Seen (held_by self.now).tickets number result }
+    {
+        let i = find(&self.tickets, number)?;
+        Some(&self.tickets[i])
     }
-    None
-}
 
-pub(crate) fn look(tickets: &Vec<Ticket>, number: u32) -> Option<&Ticket>
-    ensures { Seen (ticket_numbers tickets.now.items) number result }
-{
-    match find(tickets, number) {
-        Some(i) => Some(&tickets[i]),
-        None => None,
+    // kept: `room` in four contracts; it relates a hand before and after, so that no field can hold it.
+    // Hands back the first ticket of this number.
+    pub(crate) fn take(&mut self, number: u32) -> Option<Ticket>
+        ensures taken { Taken (held_by self.old).tickets number result (held_by self.new).tickets }
+        ensures steps { (held_by self.new).steps ≡ (held_by self.old).steps }
+        ensures room { (n : ℕ) → Spare (suc n) self.old → Spare n self.new }
+        ensures fewer { vec_len self.new.tickets ≤ vec_len self.old.tickets }
+    {
+        let i = find(&self.tickets, number)?;
+        Some(self.tickets.remove(i))
     }
-}
 
-pub(crate) fn take(tickets: &mut Vec<Ticket>, number: u32) -> Option<Ticket>
-    ensures taken { Taken (ticket_numbers tickets.old.items) number result (ticket_numbers tickets.new.items) }
-    ensures fewer { vec_len tickets.new ≤ vec_len tickets.old }
-    ensures room { vec_capacity tickets.new ≡ vec_capacity tickets.old }
-{
-    match find(tickets, number) {
-        Some(i) => Some(tickets.remove(i)),
-        None => None,
+    // Holds one ticket more, and answers its number.
+    pub(crate) fn keep(&mut self, ticket: Ticket) -> u32
+        requires { Spare 1 self.old }
+        ensures number { result ≡ ticket.number }
+        ensures kept { held_by self.new ≡ held ((held_by self.old).tickets ++ (ticket.number ∷ [])) (held_by self.old).steps }
+        ensures room { (n : ℕ) → Spare (suc n) self.old → Spare n self.new }
+        ensures more { vec_len self.new.tickets ≡ suc (vec_len self.old.tickets) }
+    {
+        let number = ticket.number();
+        self.tickets.push_reserved(ticket);
+        number
     }
-}
 
-pub(crate) fn keep(tickets: &mut Vec<Ticket>, ticket: Ticket)
-    requires { vec_len tickets.old < vec_capacity tickets.old }
-    ensures kept { ticket_numbers tickets.new.items ≡ ticket_numbers tickets.old.items ++ (ticket.number ∷ []) }
-    ensures more { vec_len tickets.new ≡ suc (vec_len tickets.old) }
-    ensures room { vec_capacity tickets.new ≡ vec_capacity tickets.old }
-{
-    tickets.push_reserved(ticket);
-}
+    // kept: beside `keep`, since each contract says which of the two tables grows.
+    // Holds one step more, and answers its numbers.
+    pub(crate) fn keep_step(&mut self, step: Step) -> StepNumbers
+        requires { Spare 1 self.old }
+        ensures numbers { result ≡ step.numbers }
+        ensures kept { held_by self.new ≡ held (held_by self.old).tickets ((held_by self.old).steps ++ (Some step.numbers ∷ [])) }
+        ensures room { (n : ℕ) → Spare (suc n) self.old → Spare n self.new }
+        ensures same { vec_len self.new.tickets ≡ vec_len self.old.tickets }
+    {
+        let numbers = step.numbers();
+        self.steps.push_reserved(Some(step));
+        numbers
+    }
 
-pub(crate) fn keep_step(steps: &mut Vec<Option<Step>>, step: Step)
-    requires { vec_len steps.old < vec_capacity steps.old }
-    ensures kept { step_numbers steps.new.items ≡ step_numbers steps.old.items ++ (Some step.numbers ∷ []) }
-    ensures more { vec_len steps.new ≡ suc (vec_len steps.old) }
-    ensures room { vec_capacity steps.new ≡ vec_capacity steps.old }
-{
-    steps.push_reserved(Some(step));
-}
-
-// The step at a place, if there is one that was not used yet; it is used now.
-pub(crate) fn take_step(steps: &mut Vec<Option<Step>>, place: usize) -> Option<Step>
-    ensures taken { StepTaken (step_numbers steps.old.items) place result (step_numbers steps.new.items) }
-    ensures same { vec_len steps.new ≡ vec_len steps.old }
-    ensures room { vec_capacity steps.new ≡ vec_capacity steps.old }
-{
-    if place < steps.len() {
-        steps[place].take()
-    } else {
-        None
+    // The step at a place, if there is one that was not used yet; it is used now.
+    pub(crate) fn take_step(&mut self, place: usize) -> Option<Step>
+        ensures taken { StepTaken (held_by self.old).steps place result (held_by self.new).steps }
+        ensures tickets { (held_by self.new).tickets ≡ (held_by self.old).tickets }
+        ensures room { (n : ℕ) → Spare (suc n) self.old → Spare n self.new }
+        ensures same { vec_len self.new.tickets ≡ vec_len self.old.tickets }
+    {
+        self.steps.get_mut(place)?.take()
     }
 }

@@ -1,7 +1,7 @@
 // What can be asked of a run.
 
 // One call. A ticket is named by its number, a step by its place among the steps that the run was given, counted from 0.
-#[derive(Clone, Copy)]
+#[derive(Clone, Copy, PartialEq, Eq, Debug)]
 pub enum Request {
     Recover,
     Begin,

@@ -5,13 +5,14 @@ ghost use Rattle.runs.specs.Hands.{held_by, Spare};
 ghost use Rattle.runs.specs.Held.{held};
 ghost use Rattle.runs.specs.Runs.{Turn, Made, RunMade, abandoning};
 
-use crate::hands::{Hand, keep, keep_step, look, take as take_ticket, take_step};
+use crate::hands::Hand;
 use crate::requests::Request;
 use crate::rooms::Room;
 use flash::interface::Flash;
 use store::entries::Entry;
 use store::stores::Store;
 
+// kept: store, hand and log as three parameters: the store is the caller's, the hand is taken apart at the end, and the log is the answer.
 // Takes up one request: makes the call that it asks for, if what it names is held.
 fn turn<F: Flash>(store: &mut Store<F>, hand: &mut Hand, request: Request) -> Option<Entry>
     requires { Spare 1 hand.old }
@@ -19,71 +20,53 @@ fn turn<F: Flash>(store: &mut Store<F>, hand: &mut Hand, request: Request) -> Op
     ensures room { (n : ℕ) → Spare (suc n) hand.old → Spare n hand.new }
     ensures few { vec_len hand.new.tickets ≤ suc (vec_len hand.old.tickets) }
 {
-    match request {
-        Request::Recover => Some(Entry::Recover {
+    let entry = match request {
+        Request::Recover => Entry::Recover {
             answer: store.recover(),
-        }),
-        Request::Begin => match store.begin() {
-            Ok(ticket) => {
-                let number = ticket.number();
-                keep(&mut hand.tickets, ticket);
-                Some(Entry::Begin { answer: Ok(number) })
-            }
-            Err(why) => Some(Entry::Begin { answer: Err(why) }),
         },
-        Request::Put { ticket, key, value } => match look(&hand.tickets, ticket) {
-            Some(shown) => Some(Entry::Put {
-                ticket,
-                key,
-                value,
-                answer: store.put(shown, key, value),
-            }),
-            None => None,
+        Request::Begin => Entry::Begin {
+            // kept: a match, as in `Temperature`; with `map` and a closure that changes the hand the proof did not close.
+            answer: match store.begin() {
+                Ok(ticket) => Ok(hand.keep(ticket)),
+                Err(why) => Err(why),
+            },
         },
-        Request::Commit { ticket } => match take_ticket(&mut hand.tickets, ticket) {
-            Some(taken) => Some(Entry::Commit {
-                ticket,
-                answer: store.commit(taken),
-            }),
-            None => None,
+        Request::Put { ticket, key, value } => Entry::Put {
+            ticket,
+            key,
+            value,
+            answer: store.put(hand.look(ticket)?, key, value),
         },
-        Request::Abandon { ticket } => match take_ticket(&mut hand.tickets, ticket) {
-            Some(taken) => Some(Entry::Abandon {
-                ticket,
-                answer: store.abandon(taken),
-            }),
-            None => None,
+        Request::Commit { ticket } => Entry::Commit {
+            ticket,
+            answer: store.commit(hand.take(ticket)?),
         },
-        Request::Get { key } => Some(Entry::Get {
+        Request::Abandon { ticket } => Entry::Abandon {
+            ticket,
+            answer: store.abandon(hand.take(ticket)?),
+        },
+        Request::Get { key } => Entry::Get {
             key,
             answer: store.get(key),
-        }),
-        Request::Temperature { ut } => match store.temperature(ut) {
-            Ok(step) => {
-                let numbers = step.numbers();
-                keep_step(&mut hand.steps, step);
-                Some(Entry::Temperature {
-                    ut,
-                    answer: Ok(numbers),
-                })
-            }
-            Err(why) => Some(Entry::Temperature {
-                ut,
-                answer: Err(why),
-            }),
         },
-        Request::Pressure { step, up } => match take_step(&mut hand.steps, step) {
-            Some(taken) => {
-                let numbers = taken.numbers();
-                Some(Entry::Pressure {
-                    step: numbers,
-                    up,
-                    answer: store.pressure(taken, up),
-                })
-            }
-            None => None,
+        Request::Temperature { ut } => Entry::Temperature {
+            ut,
+            // kept: a match, as in `Begin`.
+            answer: match store.temperature(ut) {
+                Ok(step) => Ok(hand.keep_step(step)),
+                Err(why) => Err(why),
+            },
         },
-    }
+        Request::Pressure { step, up } => {
+            let taken = hand.take_step(step)?;
+            Entry::Pressure {
+                step: taken.numbers(),
+                up,
+                answer: store.pressure(taken, up),
+            }
+        }
+    };
+    Some(entry)
 }
 
 // Takes up the requests in their order.
@@ -112,6 +95,8 @@ fn abandon_each<F: Flash>(store: &mut Store<F>, hand: &mut Hand, log: &mut Vec<O
     ensures made { Made (moment F.Flash store.old) (held_by hand.old) (map abandoning (held_by hand.old).tickets) log.old.items log.new.items (moment F.Flash store.new) (held [] (held_by hand.old).steps) }
     ensures none { vec_len hand.new.tickets ≡ 0 }
 {
+    // kept: no index is counted; no ticket can be let go, so no iterator that might let go of the rest can hold them. A `VecDeque` would give
+    // them from the front, and ask for another search in `take`.
     while hand.tickets.len() > 0 {
         let ticket = hand.tickets.remove(0);
         let number = ticket.number();
@@ -135,12 +120,10 @@ pub fn make_calls<F: Flash>(
     ensures { RunMade (moment F.Flash store.old) (take room.most requests.now) result.items (moment F.Flash store.new) }
 {
     let Room {
-        tickets,
-        steps,
+        mut hand,
         mut log,
         most,
     } = room;
-    let mut hand = Hand { tickets, steps };
     let count = requests.len().min(most);
     take_up(store, &mut hand, &requests[..count], &mut log);
     abandon_each(store, &mut hand, &mut log);

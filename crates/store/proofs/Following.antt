@@ -11,7 +11,8 @@ use Rattle.store.specs.declared.refusals.Refusal.{Refusal}
 use Rattle.store.specs.declared.steps.StepNumbers.{StepNumbers}
 use Rattle.store.specs.Refusals.{refusal_number}
 use Rattle.store.specs.Readings.{temperature_answer}
-use Rattle.store.specs.Moments.{Memory, Moment}
+use Rattle.store.specs.Memories.{Memory}
+use Rattle.store.specs.Moments.{Moment}
 use Rattle.store.specs.Calls.{If, Plain}
 use Rattle.store.specs.Ledger.{OpenChange, Ledger, ledger, laid, number_by, one_more, change_in, drops, doubts, fed, ledger_of, begins, cut_since_recover}
 use Rattle.store.specs.Law.{Right, StepStands, Given, AgreesIn, Agrees, is_cold, AnswersNumber, Grows, CallFollowsLedger}

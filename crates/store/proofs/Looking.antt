@@ -20,7 +20,8 @@ use Rattle.store.specs.declared.refusals.Refusal.TheVariants.{Cold, WrongTicket,
 use Rattle.store.specs.declared.steps.StepNumbers.{StepNumbers}
 use Rattle.store.specs.declared.steps.Line.{Line}
 use Rattle.store.specs.Readings.{unless_absent, step_of, line_of, temperature_answer, pressure_answer}
-use Rattle.store.specs.Moments.{Memory, cold, ready, changing, Moment, memory_of}
+use Rattle.store.specs.Memories.{Memory, cold, ready, changing, memory_of}
+use Rattle.store.specs.Moments.{Moment}
 use Rattle.store.specs.Calls.{If, Plain, Refused, Abandons, looked, Looks}
 
 abbrev pub number_of : List Pair → ℕ → Result ℕ Refusal

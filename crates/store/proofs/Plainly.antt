@@ -21,7 +21,8 @@ use Rattle.store.specs.declared.steps.StepNumbers.{StepNumbers}
 use Rattle.store.specs.declared.steps.Line.{Line}
 use Rattle.store.specs.Changes.{put_answer, put_change}
 use Rattle.store.specs.Readings.{refusal_of, unless_absent, step_of, line_of, temperature_answer, pressure_answer}
-use Rattle.store.specs.Moments.{Memory, cold, ready, changing, Moment}
+use Rattle.store.specs.Memories.{Memory, cold, ready, changing}
+use Rattle.store.specs.Moments.{Moment}
 use Rattle.store.specs.Calls.{limit, Begins, Puts, Abandons, looked, Looks, get_answer}
 use Rattle.store.specs.Ledger.{OpenChange, Ledger, laid, pairs_by, number_by, with_put, ledger_of, begins}
 use Rattle.store.specs.Law.{unless_doubt, begin_answer, with_ticket, line_with, line_answer, AgreesIn, StepStands, Agrees, CallFollowsLedger}

@@ -1,5 +1,6 @@
 -- What the flash answered, told by what its fault gives.
-use Rattle.std.proofs.Common.{ℕ, ◌+◌, List, [], ◌∷◌, Ok, Err, Option, Result, refl, inl, inr}
+use Rattle.std.proofs.Common.{◌≡◌, ℕ, ◌+◌, List, [], ◌∷◌, Ok, Err, Option, Result, refl, ap, inl, inr, MatchResult}
+use Rattle.std.specs.Result.{IsErrAnd}
 use Rattle.flash.specs.FlashState.{FlashState}
 use Rattle.flash.specs.Calls.{PoweredUp, Refused}
 use Rattle.flash.specs.declared.faults.FlashFault.{Ghosts as FaultGhosts}
@@ -8,6 +9,8 @@ use Rattle.journal.specs.Reading.{Reading}
 use Rattle.journal.specs.Writes.{Write, completed, StoppedAt, Performed, write_refusal, write_bank, write_unit}
 use Rattle.journal.specs.Commit.{commit_writes, formatting}
 use Rattle.journal.specs.Outcomes.{CutShort, WholeOrAbsentAfter, EmptyAfter}
+use Rattle.store.specs.declared.refusals.Refusal.{Refusal}
+use Rattle.store.specs.declared.refusals.Refusal.TheVariants.{WriteStopped}
 use Rattle.store.specs.Stops.{Stop, stops, told, refused_at, FormatRun, CommitRun}
 
 module _ {F : Type 0} (t : FaultGhosts F) where
@@ -68,3 +71,10 @@ module _ {F : Type 0} (t : FaultGhosts F) where
         whole_or_absent = told_whole s r change (r.number + 1) s' a h;
         answer = refl;
       }
+
+  -- what `map_err` makes of a result of the flash, by what the closure gives
+  pub stopped_is : {A : Type 0} (P : F → Refusal → Type 0) → ((e : F) (why : Refusal) → P e why → why ≡ WriteStopped (t.place e)) →
+      (a : Result A F) (r : Result A Refusal) → MatchResult a (λ x. r ≡ Ok x) (λ e. IsErrAnd r (P e)) → r ≡ refused_at (told t a)
+  stopped_is P gives (Ok x) r e = e
+  stopped_is P gives (Err e) (Ok x) p = absurd p
+  stopped_is P gives (Err e) (Err why) p = ap Err (gives e why p)

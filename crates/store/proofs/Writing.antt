@@ -15,7 +15,8 @@ use Rattle.store.specs.declared.entries.Entry.TheVariants.{Recover, Commit}
 use Rattle.store.specs.declared.refusals.Refusal.{Refusal}
 use Rattle.store.specs.declared.refusals.Refusal.TheVariants.{Cold, WrongTicket, LastNumber, WriteStopped}
 use Rattle.store.specs.Stops.{is_roomy, Stop, stops, refused_at}
-use Rattle.store.specs.Moments.{Memory, cold, ready, changing, Moment, Known}
+use Rattle.store.specs.Memories.{Memory, cold, ready, changing, Known}
+use Rattle.store.specs.Moments.{Moment}
 use Rattle.store.specs.Calls.{limit, If, recover_answer, recover_memory, Recovers, written, written_memory, Formats, CommitsOpen, Commits}
 use Rattle.store.specs.Ledger.{OpenChange, Ledger, ledger, laid, pairs_by, number_by, one_more, change_in, resolves, stands, ledger_of, cut_since_recover}
 use Rattle.store.specs.Law.{CutExactlyBelow, CommitOpen, CommitRight, Settled, InDoubt, AgreesIn, Agrees, CallFollowsLedger, BeginsPast}

@@ -15,7 +15,8 @@ use Rattle.store.specs.declared.refusals.Refusal.TheVariants.{Cold, SmallFlash, 
 use Rattle.store.specs.declared.steps.Step.{Step}
 use Rattle.store.specs.declared.steps.StepNumbers.{StepNumbers}
 use Rattle.store.specs.declared.tickets.Ticket.{Ticket}
-use Rattle.store.specs.Moments.{Memory, cold, ready, changing, Moment}
+use Rattle.store.specs.Memories.{Memory, cold, ready, changing}
+use Rattle.store.specs.Moments.{Moment}
 use Rattle.store.specs.Changes.{put_answer, put_change}
 use Rattle.store.specs.Stops.{is_roomy, FormatRun, CommitRun}
 use Rattle.store.specs.Readings.{temperature_answer, pressure_answer}
@@ -90,11 +91,14 @@ Begins cold m r m' = Refused m r Cold m'
 Begins (ready s) m r m' = Opens m s r m'
 Begins (changing s ticket change) m r m' = Refused m r ChangeOpen m'
 
+abbrev pub PutsOpen : Moment → Reading → ℕ → List Pair → Pair → Result ℕ Refusal → Moment → Type 0
+PutsOpen m s ticket change p r m' = Plain m r (put_answer change p) (changing s ticket (put_change change p)) m.next m'
+
 abbrev pub Puts : Memory → Moment → ℕ → Pair → Result ℕ Refusal → Moment → Type 0
 Puts cold m shown p r m' = Refused m r Cold m'
 Puts (ready s) m shown p r m' = Refused m r WrongTicket m'
 Puts (changing s ticket change) m shown p r m' =
-    If (shown == ticket) (Plain m r (put_answer change p) (changing s ticket (put_change change p)) m.next m') (Refused m r WrongTicket m')
+    If (shown == ticket) (PutsOpen m s ticket change p r m') (Refused m r WrongTicket m')
 
 pub record Committed (m : Moment) (s : Reading) (change : List Pair) (r : Result ℕ Refusal) (m' : Moment) : Type 0 where
   pub made : Result (Unit {0}) Refusal

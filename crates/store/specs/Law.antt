@@ -21,7 +21,8 @@ use Rattle.store.specs.declared.steps.Line.{Line}
 use Rattle.store.specs.Changes.{put_answer}
 use Rattle.store.specs.Stops.{is_roomy}
 use Rattle.store.specs.Readings.{refusal_of, unless_absent, line_of, temperature_answer, pressure_answer}
-use Rattle.store.specs.Moments.{Memory, cold, ready, changing, Moment, Known}
+use Rattle.store.specs.Memories.{Memory, cold, ready, changing, Known}
+use Rattle.store.specs.Moments.{Moment}
 use Rattle.store.specs.Calls.{limit, If, get_answer}
 use Rattle.store.specs.Ledger.{OpenChange, Ledger, laid, pairs_by, number_by, ledger_of, begins, cut_since_recover}
 

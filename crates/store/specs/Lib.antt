@@ -1,5 +1,6 @@
 pub mod Refusals
 pub mod Changes
+pub mod Memories
 pub mod Moments
 pub mod Stops
 pub mod Readings

@@ -1,26 +1,11 @@
 -- A store at one moment, seen with the meaning of its flash.
-use Rattle.std.specs.Prelude.{◌≡◌, ℕ, List, Some}
+use Rattle.std.specs.Prelude.{ℕ}
 use Rattle.flash.specs.FlashState.{FlashState}
 use Rattle.flash.specs.Seen.{seen}
+use Rattle.flash.specs.declared.faults.FlashFault.{Ghosts as FaultGhosts}
 use Rattle.flash.specs.declared.interface.Flash.{Ghosts}
-use Rattle.layout.specs.declared.meanings.Pair.{Pair}
-use Rattle.layout.specs.declared.pairs.Pairs.{Pairs}
-use Rattle.layout.specs.Held.{pairs_of}
-use Rattle.journal.specs.Reading.{Reading, reads}
-use Rattle.journal.specs.Commit.{Change}
-use Rattle.journal.specs.Log.{reading_of}
-use Rattle.journal.specs.Outcomes.{Usable}
-use Rattle.journal.specs.declared.standing.Standing.{Standing}
-use Rattle.store.specs.declared.phases.Phase.{Phase}
-use Rattle.store.specs.declared.phases.Phase.TheVariants.{Cold, Ready, Changing}
+use Rattle.store.specs.Memories.{Memory, memory_of, TiedIn}
 use Rattle.store.specs.declared.stores.Store.{Store}
-
--- What a store knows. A cold one has no pairs and no change; a ready one has what it took from the units; a changing one also
--- has an open change, with its ticket's number and its pairs.
-pub data Memory : Type 0 where
-  cold : Memory
-  ready : Reading → Memory
-  changing : Reading → ℕ → List Pair → Memory
 
 -- the flash, what the store knows, and the number of the next ticket
 pub record Moment : Type 0 where
@@ -28,24 +13,9 @@ pub record Moment : Type 0 where
   pub memory : Memory
   pub next : ℕ
 
-abbrev pub memory_of : Phase → Standing → Pairs → Memory
-memory_of Cold standing change = cold
-memory_of Ready standing change = ready (reading_of standing)
-memory_of (Changing ticket) standing change = changing (reading_of standing) ticket (pairs_of change)
-
-abbrev pub moment : {X Y : Type 0} → Ghosts X Y → Store X → Moment
+abbrev pub moment : {X Y : Type 0} → (g : Ghosts X Y) → {t : FaultGhosts Y} → Store X Y g t → Moment
 moment g s = record { flash = seen g s.flash; memory = memory_of s.phase s.standing s.change; next = s.next }
 
--- the flash is on, large enough, and its units read as r
-pub record Known (s : FlashState) (r : Reading) : Type 0 where
-  pub usable : Usable s
-  pub read : reads s.units ≡ Some r
-
--- What a store knows is what its units say; an open change is well formed and has at most 12 pairs. So it is at every moment of a store's life.
-abbrev pub TiedIn : Memory → FlashState → Type 0
-TiedIn cold s = Unit {0}
-TiedIn (ready r) s = Known s r
-TiedIn (changing r ticket change) s = Known s r × Change change
-
+-- What the store knows is what its units say. The invariant of `Store` is this, said of its parts.
 abbrev pub Tied : Moment → Type 0
 Tied m = TiedIn m.memory m.flash

@@ -26,5 +26,6 @@ pub(crate) fn add(change: &mut Pairs, pair: Pair) -> Result<u32, Refusal>
         return Err(Refusal::ChangeFull);
     }
     let _ = change.lay(pair);
+    // kept: `as`, proved to fit; `try_from` would answer an error that cannot come.
     Ok(change.len() as u32)
 }

@@ -3,7 +3,7 @@ use crate::refusals::Refusal;
 use crate::steps::{Line, StepNumbers};
 
 // One call with its arguments and what it answered; a ticket stands for its number, a step for its numbers.
-#[derive(Clone, Copy)]
+#[derive(Clone, Copy, PartialEq, Eq, Debug)]
 pub enum Entry {
     Recover {
         answer: Result<u32, Refusal>,

@@ -37,12 +37,10 @@ pub(crate) fn power_up_and_format<F: Flash>(flash: &mut F) -> Result<(), Refusal
     ensures { FormatRun (seen F.Flash flash.old) result (seen F.Flash flash.new) }
 {
     flash.power_up();
-    match format_banks(flash) {
-        Ok(()) => Ok(()),
-        Err(fault) => Err(Refusal::WriteStopped(fault.place())),
-    }
+    format_banks(flash).map_err(|fault| Refusal::WriteStopped(fault.place()))
 }
 
+// kept: the closure of the format once more, shorter than a function and its contract.
 // Writes a change with the next number.
 pub(crate) fn write<F: Flash>(
     flash: &mut F,
@@ -53,8 +51,7 @@ pub(crate) fn write<F: Flash>(
     requires { number ≡ standing.now.number + 1 }
     ensures { CommitRun (seen F.Flash flash.old) (reading_of standing.now) (pairs_of change.now) result (seen F.Flash flash.new) }
 {
-    match write_change(flash, standing, change, number) {
-        Ok(()) => Ok(()),
-        Err(fault) => Err(Refusal::WriteStopped(fault.place())),
-    }
+    write_change(flash, standing, change, number).map_err(|fault| Refusal::WriteStopped(
+        fault.place(),
+    ))
 }

@@ -2,7 +2,7 @@
 use layout::meanings::Pair;
 
 // Cold: nothing is known of the units. Ready: the standing pairs are known. Changing: a change is open beside them.
-#[derive(Clone, Copy)]
+#[derive(Clone, Copy, PartialEq, Eq, Debug)]
 pub enum Phase {
     Cold,
     Ready,
@@ -11,7 +11,7 @@ pub enum Phase {
 
 // A call, as far as the phase has a say in it; the ticket is the number of the one that was shown. `Look` is every call that
 // only looks at what stands.
-#[derive(Clone, Copy)]
+#[derive(Clone, Copy, PartialEq, Eq, Debug)]
 pub enum Event {
     Format,
     Recover,

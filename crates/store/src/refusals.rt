@@ -1,8 +1,14 @@
 // Why a call of the store was refused.
 ghost use Rattle.std.specs.Prelude.{◌≡◌};
+ghost use Rattle.store.specs.declared.refusals.Refusal.TheVariants.{Absent as key_absent};
 ghost use Rattle.store.specs.Refusals.{refusal_number};
+ghost use Rattle.store.specs.Readings.{refusal_of};
 
-#[derive(Clone, Copy)]
+use compensation::readings::ReadingRefusal;
+use flash::faults::Place;
+use readings::gathered::Absent;
+
+#[derive(Clone, Copy, PartialEq, Eq, Debug)]
 pub enum Refusal {
     // 1: the store is cold.
     Cold,
@@ -25,7 +31,7 @@ pub enum Refusal {
     // 10: the store's number is the last one.
     LastNumber,
     // 11: a write was cut or refused, at this bank and unit; an erase has no unit.
-    WriteStopped((usize, Option<usize>)),
+    WriteStopped(Place),
     // 12: the raw value is none that the chip can give.
     RawValue,
     // 13: this is the lowest of the keys 1 to 11 that has no value.
@@ -40,6 +46,7 @@ pub enum Refusal {
 
 impl Refusal {
     // The number by which the refusal is known.
+    // kept: a match; as discriminants of the enum a number given twice would not compile, and the edit that gives one twice could show nothing
     pub fn number(self) -> u8
         ensures { result ≡ refusal_number self }
     {
@@ -61,5 +68,26 @@ impl Refusal {
             Refusal::NoTemperature => 15,
             Refusal::NoPressure => 16,
         }
+    }
+}
+
+// 12, 15 and 16 by what the arithmetic refused.
+impl From<ReadingRefusal> for Refusal {
+    ghost from_gives = { λ e r. r ≡ refusal_of e };
+
+    fn from(refusal: ReadingRefusal) -> Refusal {
+        match refusal {
+            ReadingRefusal::RawValue => Refusal::RawValue,
+            ReadingRefusal::Temperature => Refusal::NoTemperature,
+            ReadingRefusal::Pressure => Refusal::NoPressure,
+        }
+    }
+}
+
+impl From<Absent> for Refusal {
+    ghost from_gives = { λ e r. r ≡ key_absent e.key };
+
+    fn from(absent: Absent) -> Refusal {
+        Refusal::Absent(absent.key)
     }
 }

@@ -2,7 +2,7 @@
 ghost use Rattle.std.specs.Prelude.{◌≡◌};
 
 // B5, the temperature T in tenths of a degree, and the store's number when it was taken.
-#[derive(Clone, Copy)]
+#[derive(Clone, Copy, PartialEq, Eq, Debug)]
 pub struct StepNumbers {
     pub b5: i16,
     pub t: i16,
@@ -16,7 +16,7 @@ pub struct Step {
 }
 
 // A line of the instrument: T in tenths of a degree and P in Pa.
-#[derive(Clone, Copy)]
+#[derive(Clone, Copy, PartialEq, Eq, Debug)]
 pub struct Line {
     pub t: i16,
     pub p: i32,

@@ -3,7 +3,7 @@ ghost use Rattle.std.specs.Prelude.{◌≡◌};
 ghost use Rattle.flash.specs.Seen.{seen};
 ghost use Rattle.journal.specs.Log.{reading_of};
 ghost use Rattle.journal.specs.Commit.{formatted};
-ghost use Rattle.store.specs.Moments.{moment, cold, Tied};
+ghost use Rattle.store.specs.Memories.{memory_of, TiedIn, tied_prop};
 
 use crate::phases::Phase;
 use flash::interface::Flash;
@@ -14,14 +14,18 @@ mod calls;
 mod judging;
 mod measuring;
 
+// kept: fields beside the phase. Held in it, they would be matched for a second time, with an arm that cannot be, by the calls that only look at what
+// stands: these are judged by the one match on phase and event, as the project wants, and that answers a number.
 // What stands by the units is held in `standing` unless the store is cold, an open change in `change` while it is changing.
 #[derive(Drop)]
-pub struct Store<F> {
+pub struct Store<F: Flash> {
     flash: F,
     phase: Phase,
     standing: Standing,
     change: Pairs,
     next: u32,
+    // What the store knows is what its units say.
+    pub ghost tied: { TiedIn (memory_of phase standing change) (seen F.Flash flash) } by { tied_prop (memory_of phase standing change) (seen F.Flash flash) },
 }
 
 // What an empty store has in its units: a header in bank 0.
@@ -37,6 +41,9 @@ pub(crate) fn empty() -> Standing
 }
 
 impl<F: Flash> Store<F> {
+    ghost use Rattle.store.specs.Memories.{cold};
+    ghost use Rattle.store.specs.Moments.{moment, Tied};
+
     // A cold store over a flash, whose next ticket has this number.
     pub fn new(flash: F, next: u32) -> Self
         ensures flash { (moment F.Flash result).flash ≡ seen F.Flash flash }

@@ -1,10 +1,10 @@
 // The calls of the store that concern its units.
 //
-// Of each call three things are said. `does`: exactly what it answers and what it leaves, whatever the store was before. `tied`: what the
-// store knows stays what its units say. `ledger`: after every past since an accepted format the answer is the one that the
-// ledger of that past calls for, and the store agrees with the past and this call; of format, `past`: accepted, it begins one.
+// Of each call two things are said. `does`: exactly what it answers and what it leaves, whatever the store was before. `ledger`: after every past since
+// an accepted format the answer is the one that the ledger of that past calls for, and the store agrees with the past and this call; of format,
+// `past`: accepted, it begins one. That what the store knows stays what its units say is the invariant of its type.
 ghost use Rattle.store.specs.declared.entries.Entry.TheVariants.{Recover, Begin, Put, Commit, Abandon, Get};
-ghost use Rattle.store.specs.Moments.{moment, Tied};
+ghost use Rattle.store.specs.Moments.{moment};
 ghost use Rattle.store.specs.Calls.{Formats, Does, ticket_number};
 ghost use Rattle.store.specs.Law.{FollowsLedger, BeginsPast};
 
@@ -20,7 +20,6 @@ impl<F: Flash> Store<F> {
     // Powers up, drops an open change, erases both banks and writes the header of an empty store; answers 0. Accepted, it begins a past.
     pub fn format(&mut self) -> Result<u32, Refusal>
         ensures does { Formats (moment F.Flash self.old) result (moment F.Flash self.new) }
-        ensures tied { Tied (moment F.Flash self.old) → Tied (moment F.Flash self.new) }
         ensures past { BeginsPast result (moment F.Flash self.new) }
     {
         self.judge(Event::Format)
@@ -29,7 +28,6 @@ impl<F: Flash> Store<F> {
     // Powers up, drops an open change and takes pairs and number from the units alone; answers the number.
     pub fn recover(&mut self) -> Result<u32, Refusal>
         ensures does { Does (moment F.Flash self.old) (Recover result) (moment F.Flash self.new) }
-        ensures tied { Tied (moment F.Flash self.old) → Tied (moment F.Flash self.new) }
         ensures ledger { FollowsLedger (moment F.Flash self.old) (Recover result) (moment F.Flash self.new) }
     {
         self.judge(Event::Recover)
@@ -38,7 +36,6 @@ impl<F: Flash> Store<F> {
     // Opens an empty change and gives its ticket.
     pub fn begin(&mut self) -> Result<Ticket, Refusal>
         ensures does { Does (moment F.Flash self.old) (Begin (ticket_number result)) (moment F.Flash self.new) }
-        ensures tied { Tied (moment F.Flash self.old) → Tied (moment F.Flash self.new) }
         ensures ledger { FollowsLedger (moment F.Flash self.old) (Begin (ticket_number result)) (moment F.Flash self.new) }
     {
         let number = self.judge(Event::Begin)?;
@@ -48,7 +45,6 @@ impl<F: Flash> Store<F> {
     // Adds a pair to the open change or replaces the one of its key; answers how many pairs the change has.
     pub fn put(&mut self, ticket: &Ticket, key: u8, value: i32) -> Result<u32, Refusal>
         ensures does { Does (moment F.Flash self.old) (Put ticket.now.number key value result) (moment F.Flash self.new) }
-        ensures tied { Tied (moment F.Flash self.old) → Tied (moment F.Flash self.new) }
         ensures ledger { FollowsLedger (moment F.Flash self.old) (Put ticket.now.number key value result) (moment F.Flash self.new) }
     {
         self.judge(Event::Put {
@@ -60,7 +56,6 @@ impl<F: Flash> Store<F> {
     // Writes the open change; answers the new number. The ticket is taken in every case.
     pub fn commit(&mut self, ticket: Ticket) -> Result<u32, Refusal>
         ensures does { Does (moment F.Flash self.old) (Commit ticket.number result) (moment F.Flash self.new) }
-        ensures tied { Tied (moment F.Flash self.old) → Tied (moment F.Flash self.new) }
         ensures ledger { FollowsLedger (moment F.Flash self.old) (Commit ticket.number result) (moment F.Flash self.new) }
     {
         let Ticket { number } = ticket;
@@ -70,7 +65,6 @@ impl<F: Flash> Store<F> {
     // Drops the open change. The ticket is taken in every case.
     pub fn abandon(&mut self, ticket: Ticket) -> Result<(), Refusal>
         ensures does { Does (moment F.Flash self.old) (Abandon ticket.number result) (moment F.Flash self.new) }
-        ensures tied { Tied (moment F.Flash self.old) → Tied (moment F.Flash self.new) }
         ensures ledger { FollowsLedger (moment F.Flash self.old) (Abandon ticket.number result) (moment F.Flash self.new) }
     {
         let Ticket { number } = ticket;
@@ -81,7 +75,6 @@ impl<F: Flash> Store<F> {
     // The standing value of a key, if it has one; never that of an open change.
     pub fn get(&mut self, key: u8) -> Result<Option<i32>, Refusal>
         ensures does { Does (moment F.Flash self.old) (Get key result) (moment F.Flash self.new) }
-        ensures tied { Tied (moment F.Flash self.old) → Tied (moment F.Flash self.new) }
         ensures ledger { FollowsLedger (moment F.Flash self.old) (Get key result) (moment F.Flash self.new) }
     {
         self.judge(Event::Look)?;

@@ -1,9 +1,9 @@
 // How the store judges its calls: by its phase and the call together.
-ghost use Rattle.std.specs.Prelude.{◌≡◌};
+ghost use Rattle.std.specs.Prelude.{◌≡◌, ℕ};
 ghost use Rattle.layout.specs.Held.{pairs_of};
 ghost use Rattle.journal.specs.Log.{reading_of};
 ghost use Rattle.store.specs.Moments.{moment};
-ghost use Rattle.store.specs.Calls.{Judged, Recovers, Formats, Opens, CommitsOpen};
+ghost use Rattle.store.specs.Calls.{Judged, Recovers, Formats, Opens, PutsOpen, CommitsOpen};
 
 use crate::changes::add;
 use crate::flashes::{is_roomy, power_up_and_format, power_up_and_read, write};
@@ -12,6 +12,7 @@ use crate::refusals::Refusal;
 use crate::stores::{Store, empty};
 use flash::interface::Flash;
 use journal::changes::standing_after;
+use layout::meanings::Pair;
 use layout::pairs::Pairs;
 
 impl<F: Flash> Store<F> {
@@ -22,14 +23,10 @@ impl<F: Flash> Store<F> {
         if !is_roomy(&self.flash) {
             return Err(Refusal::SmallFlash);
         }
-        match power_up_and_read(&mut self.flash) {
-            Some(standing) => {
-                self.standing = standing;
-                self.phase = Phase::Ready;
-                Ok(standing.number)
-            }
-            None => Err(Refusal::NoHeader),
-        }
+        let standing = power_up_and_read(&mut self.flash).ok_or(Refusal::NoHeader)?;
+        self.standing = standing;
+        self.phase = Phase::Ready;
+        Ok(standing.number)
     }
 
     fn format_units(&mut self) -> Result<u32, Refusal>
@@ -38,17 +35,11 @@ impl<F: Flash> Store<F> {
         if !is_roomy(&self.flash) {
             return Err(Refusal::SmallFlash);
         }
-        match power_up_and_format(&mut self.flash) {
-            Ok(()) => {
-                self.standing = empty();
-                self.phase = Phase::Ready;
-                Ok(0)
-            }
-            Err(stopped) => {
-                self.phase = Phase::Cold;
-                Err(stopped)
-            }
-        }
+        self.phase = Phase::Cold;
+        power_up_and_format(&mut self.flash)?;
+        self.standing = empty();
+        self.phase = Phase::Ready;
+        Ok(0)
     }
 
     // Opens an empty change.
@@ -57,19 +48,23 @@ impl<F: Flash> Store<F> {
         ensures { Opens (moment F.Flash self.old) (reading_of self.old.standing) result (moment F.Flash self.new) }
     {
         let ticket = self.next;
-        match ticket.checked_add(1) {
-            None => Err(Refusal::NoTickets),
-            Some(next) => {
-                self.next = next;
-                self.change = Pairs::new();
-                self.phase = Phase::Changing { ticket };
-                Ok(ticket)
-            }
-        }
+        self.next = ticket.checked_add(1).ok_or(Refusal::NoTickets)?;
+        self.change = Pairs::new();
+        self.phase = Phase::Changing { ticket };
+        Ok(ticket)
+    }
+
+    // Adds a pair to the open change.
+    fn put_open(&mut self, pair: Pair) -> Result<u32, Refusal>
+        requires { (ticket : ℕ) × (self.old.phase ≡ Phase.Changing ticket) }
+        ensures { (ticket : ℕ) → self.old.phase ≡ Phase.Changing ticket → PutsOpen (moment F.Flash self.old) (reading_of self.old.standing) ticket (pairs_of self.old.change) pair result (moment F.Flash self.new) }
+    {
+        add(&mut self.change, pair)
     }
 
     // Writes the open change, which ends it.
     fn commit_open(&mut self) -> Result<u32, Refusal>
+        requires { (ticket : ℕ) × (self.old.phase ≡ Phase.Changing ticket) }
         ensures { CommitsOpen (moment F.Flash self.old) (reading_of self.old.standing) (pairs_of self.old.change) result (moment F.Flash self.new) }
     {
         let Some(number) = self.standing.number.checked_add(1) else {
@@ -77,19 +72,14 @@ impl<F: Flash> Store<F> {
             return Err(Refusal::LastNumber);
         };
         let units = self.flash.units_per_bank();
-        match write(&mut self.flash, &self.standing, &self.change, number) {
-            Ok(()) => {
-                self.standing = standing_after(&self.standing, &self.change, number, units);
-                self.phase = Phase::Ready;
-                Ok(number)
-            }
-            Err(stopped) => {
-                self.phase = Phase::Cold;
-                Err(stopped)
-            }
-        }
+        self.phase = Phase::Cold;
+        write(&mut self.flash, &self.standing, &self.change, number)?;
+        self.standing = standing_after(&self.standing, &self.change, number, units);
+        self.phase = Phase::Ready;
+        Ok(number)
     }
 
+    // kept: one match on phase and event, the project's form (docs/DECISIONS.md).
     // Judges a call by the phase and the call together, and changes the store.
     pub(crate) fn judge(&mut self, event: Event) -> Result<u32, Refusal>
         ensures { Judged (moment F.Flash self.old) event result (moment F.Flash self.new) }
@@ -101,32 +91,21 @@ impl<F: Flash> Store<F> {
             (Phase::Ready | Phase::Changing { .. }, Event::Look) => Ok(self.standing.number),
             (Phase::Ready, Event::Begin) => self.open(),
             (Phase::Changing { .. }, Event::Begin) => Err(Refusal::ChangeOpen),
-            (Phase::Ready, _) => Err(Refusal::WrongTicket),
             (
                 Phase::Changing { ticket },
                 Event::Put {
                     ticket: shown,
                     pair,
                 },
-            ) => {
-                if shown != ticket {
-                    return Err(Refusal::WrongTicket);
-                }
-                add(&mut self.change, pair)
-            }
-            (Phase::Changing { ticket }, Event::Commit { ticket: shown }) => {
-                if shown != ticket {
-                    return Err(Refusal::WrongTicket);
-                }
+            ) if shown == ticket => { self.put_open(pair) }
+            (Phase::Changing { ticket }, Event::Commit { ticket: shown }) if shown == ticket => {
                 self.commit_open()
             }
-            (Phase::Changing { ticket }, Event::Abandon { ticket: shown }) => {
-                if shown != ticket {
-                    return Err(Refusal::WrongTicket);
-                }
+            (Phase::Changing { ticket }, Event::Abandon { ticket: shown }) if shown == ticket => {
                 self.phase = Phase::Ready;
                 Ok(0)
             }
+            (Phase::Ready | Phase::Changing { .. }, _) => Err(Refusal::WrongTicket),
         }
     }
 }

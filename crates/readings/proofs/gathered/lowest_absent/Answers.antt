@@ -1,20 +1,16 @@
-use Rattle.std.proofs.Common.{◌≡◌, ◌-◌, is_some, sym, ap, ◌∙◌, arith}
+use Rattle.std.proofs.Common.{◌≡◌, false, true, is_some, sym, arith, rules, tests}
+use Rattle.std.proofs.lemmas.Iterator.{first_from_Range}
 use Rattle.layout.specs.Held.{pairs_of}
-use Rattle.readings.specs.Gathered.{lowest_absent_from}
-use Rattle.readings.proofs.Looked.{stops, goes_on}
+use Rattle.layout.specs.PairLists.{value_of}
+use Rattle.readings.proofs.Looked.{lowest_found}
 use Rattle.readings.proofs.gathered.lowest_absent.Goals as goal
-
-pub loop-key-preserved : goal.loop-key-preserved
-loop-key-preserved c =
-    c.loop-key.invariant
-    ∙ goes_on (pairs_of c.args.pairs.now) 12 c.loop-key.key (omega arith) (ap is_some (sym c.value.ensures) ∙ c.if-is_none.ensures)
-
-pub returns-then-is_none : goal.returns-then-is_none
-returns-then-is_none c =
-    sym (c.loop-key.invariant
-    ∙ stops (pairs_of c.args.pairs.now) 12 c.loop-key.key (omega arith) (ap is_some (sym c.value.ensures) ∙ c.if-is_none.ensures))
 
 pub returns : goal.returns
 returns c =
-    let past : 12 - c.loop-key.key ≡ 0 = omega arith in
-    sym (c.loop-key.invariant ∙ ap (λ n. lowest_absent_from n c.loop-key.key (pairs_of c.args.pairs.now)) past)
+    let ps = pairs_of c.args.pairs.now in
+    let found =
+    first_from_Range _ _ _ _ (λ k. is_some (value_of ps k) ≡ false) (λ k. is_some (value_of ps k) ≡ true) c.find.ensures.ran
+    (λ x q k. grind (arith, tests))
+    (λ x q k. (search rules, grind (arith, tests)))
+    in
+    sym (lowest_found ps c.find.result found)

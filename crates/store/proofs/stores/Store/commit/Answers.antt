@@ -2,7 +2,6 @@ use Rattle.store.specs.declared.entries.Entry.{Entry}
 use Rattle.store.specs.declared.entries.Entry.TheVariants.{Commit}
 use Rattle.store.specs.Moments.{moment}
 use Rattle.store.proofs.Law.{follows_ledger}
-use Rattle.store.proofs.Tying.{keeps_tied}
 use Rattle.store.proofs.stores.Store.commit.Goals as goal
 
 pub returns : goal.returns
@@ -10,4 +9,4 @@ returns g c =
     let m = moment g.F.Flash c.args.self.now in
     let m' = moment g.F.Flash c.judge.new.self in
     let e : Entry = Commit c.args.ticket.number c.judge.result in
-    record { does = c.judge.ensures; tied = keeps_tied m e m' c.judge.ensures; ledger = follows_ledger m e m' c.judge.ensures }
+    record { does = c.judge.ensures; ledger = follows_ledger m e m' c.judge.ensures }

@@ -9,7 +9,6 @@ use Rattle.store.specs.Calls.{get_answer}
 use Rattle.store.specs.Moments.{moment}
 use Rattle.store.specs.Calls.{Does}
 use Rattle.store.proofs.Law.{follows_ledger}
-use Rattle.store.proofs.Tying.{keeps_tied}
 use Rattle.store.proofs.Looking.{looks_cold, looks_warm}
 use Rattle.store.proofs.stores.Store.get.Goals as goal
 
@@ -22,7 +21,7 @@ returns-in_err-judge g c =
     let is : c.from_residual.result ≡ Err why = search rules in
     let e : Entry = Get c.args.key c.from_residual.result in
     let d : Does m e m' = subst (λ (r : Result (Option ℤ) Refusal). Does m (Get c.args.key r) m') (sym is) (looks_cold m m' f why c.in_err-judge.ensures) in
-    record { does = d; tied = keeps_tied m e m' d; ledger = follows_ledger m e m' d }
+    record { does = d; ledger = follows_ledger m e m' d }
 
 pub returns-then-is_key : goal.returns-then-is_key
 returns-then-is_key g c =
@@ -34,7 +33,7 @@ returns-then-is_key g c =
     let q : r ≡ get_answer (pairs_of st.standing.pairs) c.args.key = search rules in
     let e : Entry = Get c.args.key r in
     let d : Does m e m' = looks_warm m m' st.phase st.standing st.change refl f _ c.in_ok-judge.ensures r q in
-    record { does = d; tied = keeps_tied m e m' d; ledger = follows_ledger m e m' d }
+    record { does = d; ledger = follows_ledger m e m' d }
 
 pub returns-else-is_key : goal.returns-else-is_key
 returns-else-is_key g c =
@@ -46,4 +45,4 @@ returns-else-is_key g c =
     let q : r ≡ get_answer (pairs_of st.standing.pairs) c.args.key = search rules in
     let e : Entry = Get c.args.key r in
     let d : Does m e m' = looks_warm m m' st.phase st.standing st.change refl f _ c.in_ok-judge.ensures r q in
-    record { does = d; tied = keeps_tied m e m' d; ledger = follows_ledger m e m' d }
+    record { does = d; ledger = follows_ledger m e m' d }

@@ -10,7 +10,6 @@ use Rattle.store.specs.Readings.{pressure_answer}
 use Rattle.store.specs.Moments.{moment}
 use Rattle.store.specs.Calls.{Does}
 use Rattle.store.proofs.Law.{follows_ledger}
-use Rattle.store.proofs.Tying.{keeps_tied}
 use Rattle.store.proofs.Looking.{looks_cold, looks_warm}
 use Rattle.store.proofs.stores.Store.pressure.Goals as goal
 
@@ -25,7 +24,7 @@ returns-in_err-number g c =
     let is : c.from_residual.result ≡ Err why = search rules in
     let e : Entry = Pressure st up c.from_residual.result in
     let d : Does m e m' = subst (λ (r : Result Line Refusal). Does m (Pressure st up r) m') (sym is) (looks_cold m m' f why c.in_err-number.ensures) in
-    record { does = d; tied = keeps_tied m e m' d; ledger = follows_ledger m e m' d }
+    record { does = d; ledger = follows_ledger m e m' d }
 
 pub returns : goal.returns
 returns g c =
@@ -41,4 +40,4 @@ returns g c =
     let q : c.line.result ≡ pressure_answer (pairs_of s.standing.pairs) c.in_ok-number.number st up = simp to_z-of_z at c.line.ensures in
     let e : Entry = Pressure st up c.line.result in
     let d : Does m e m' = looks_warm m m' s.phase s.standing s.change refl f c.in_ok-number.number c.in_ok-number.ensures c.line.result q in
-    record { does = d; tied = keeps_tied m e m' d; ledger = follows_ledger m e m' d }
+    record { does = d; ledger = follows_ledger m e m' d }

@@ -11,7 +11,6 @@ use Rattle.store.specs.Readings.{temperature_answer}
 use Rattle.store.specs.Moments.{moment}
 use Rattle.store.specs.Calls.{Does}
 use Rattle.store.proofs.Law.{follows_ledger}
-use Rattle.store.proofs.Tying.{keeps_tied}
 use Rattle.store.proofs.Looking.{looks_cold, looks_warm}
 use Rattle.store.proofs.stores.Store.temperature.Goals as goal
 
@@ -25,7 +24,7 @@ returns-in_err-number g c =
     let same : step_numbers c.from_residual.result ≡ Err why = ap step_numbers is in
     let e : Entry = Temperature c.args.ut (step_numbers c.from_residual.result) in
     let d : Does m e m' = subst (λ (r : Result StepNumbers Refusal). Does m (Temperature c.args.ut r) m') (sym same) (looks_cold m m' f why c.in_err-number.ensures) in
-    record { does = d; tied = keeps_tied m e m' d; ledger = follows_ledger m e m' d }
+    record { does = d; ledger = follows_ledger m e m' d }
 
 pub returns-in_err-numbers : goal.returns-in_err-numbers
 returns-in_err-numbers g c =
@@ -44,7 +43,7 @@ returns-in_err-numbers g c =
     let d : Does m e m' =
     subst (λ (x : Result StepNumbers Refusal). Does m (Temperature ut x) m') (sym same)
     (looks_warm m m' s.phase s.standing s.change refl f c.in_ok-number.number c.in_ok-number.ensures r q) in
-    record { does = d; tied = keeps_tied m e m' d; ledger = follows_ledger m e m' d }
+    record { does = d; ledger = follows_ledger m e m' d }
 
 pub returns : goal.returns
 returns g c =
@@ -58,4 +57,4 @@ returns g c =
     let q : r ≡ temperature_answer (pairs_of s.standing.pairs) c.in_ok-number.number ut = simp to_z-of_z at c.in_ok-numbers.ensures in
     let e : Entry = Temperature ut r in
     let d : Does m e m' = looks_warm m m' s.phase s.standing s.change refl f c.in_ok-number.number c.in_ok-number.ensures r q in
-    record { does = d; tied = keeps_tied m e m' d; ledger = follows_ledger m e m' d }
+    record { does = d; ledger = follows_ledger m e m' d }
