@@ -11,7 +11,8 @@ pub struct Calibration {
     ghost admitted: { admitted_set values ≡ true },
 }
 
-// kept: four tests of a range, since each has a definition of its own and only the first has a gap.
+// kept: four tests of a range, since each has a definition of its own and only the first has a gap; the catalogue of `layout` has the same
+// ranges, and neither crate depends on the other.
 fn is_signed_word(z: i64) -> bool
     ensures { result ≡ signed_word z }
 {
@@ -40,7 +41,7 @@ fn is_correction(z: i64) -> bool
 fn are_admitted(k: &Coefficients) -> bool
     ensures { result ≡ admitted_set k.now }
 {
-    // kept: `&`, which joins thirteen values; with `&&` the proof does not close alone, and a case for each of twelve branches is no plainer
+    // kept: `&`, which joins thirteen values; with `&&` the proof does not close alone, and a case for each of twelve branches is no plainer.
     is_signed_word(k.ac1)
         & is_signed_word(k.ac2)
         & is_signed_word(k.ac3)

@@ -5,8 +5,8 @@ ghost use Rattle.compensation.specs.Division.{floor_div};
 ghost use Rattle.compensation.specs.Ranges.{Size};
 
 // Rust's Euclidean division: for a divisor above 0 it rounds down.
-// kept: a function, and `pos 0 <ℤ d` in three contracts; here a quotient cut towards zero fails the contract itself,
-// and a type for divisors would only wrap each literal
+// kept: a function, and `pos 0 <ℤ d` in three contracts: in a function of its own a quotient cut towards zero fails by this contract, and
+// a value of a type for divisors above 0 would have to be made, by a test that cannot fail, at each of the calls.
 fn euclidean(n: i64, d: i64) -> i64
     requires { pos 0 <ℤ d }
     ensures { result ≡ int_div_euclid n d }

@@ -48,7 +48,7 @@ pub enum ReadingRefusal {
 
 impl ReadingRefusal {
     // The number by which the refusal is known.
-    // kept: a match; as discriminants of the enum a number given twice would not compile, and the edit that gives one twice could show nothing
+    // kept: a match; as discriminants of the enum a number given twice would not compile, and the edit that gives one twice could show nothing.
     pub fn number(self) -> u8
         ensures { result ≡ refusal_number self }
     {

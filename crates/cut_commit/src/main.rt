@@ -26,8 +26,8 @@ const B2: u8 = 8;
 // A charge for every write before the one that is to be cut.
 const PLENTY: u32 = 1000;
 
-// kept: a maker of its own, as in the other programs, which stand alone and have other plans and sizes.
 // A simulator that is powered up twice: with plenty of charge, and then with `charge`, its cut leaving a unit unreadable.
+// kept: a maker of its own, as in the other programs, which stand alone and have other plans and sizes.
 fn planned(heap: Global, charge: u32) -> anyhow::Result<Simulator> {
     let table = vec![in heap; Unit::Blank; BANKS * UNITS]?;
     let mut simulator = Simulator::new(BANKS, UNITS, table)
@@ -91,6 +91,7 @@ fn show_standing(rt: &impl Print, standing: &Standing) -> anyhow::Result<()> {
 // The units of a bank in words, up to the last that is not blank.
 fn show_bank<F: Flash>(rt: &impl Print, flash: &F, bank: usize) -> anyhow::Result<()> {
     let mut blank = true;
+    // kept: a range: a flash is asked unit by unit, and has no list of them.
     for at in 0..UNITS {
         match flash.read(bank, at) {
             Ok(Unit::Blank) => {}
@@ -112,6 +113,7 @@ fn cut_at(rt: &HostRuntime, before: u32, charge: u32, bank: usize) -> anyhow::Re
     let mut flash = planned(rt.alloc(), charge)?;
     flash.power_up();
     format_banks(&mut flash).ok().context("not formatted")?;
+    // kept: a range: the same write again, and no index is counted.
     for _ in 0..before {
         let _ = write(&mut flash, &two_pairs(408, 4))?;
     }
@@ -131,6 +133,7 @@ fn cut_at(rt: &HostRuntime, before: u32, charge: u32, bank: usize) -> anyhow::Re
 
 fn run(rt: &HostRuntime) -> anyhow::Result<()> {
     println!(rt; "Two records behind commit number 1, AC1 408 and B2 4: three writes.")?;
+    // kept: ranges here and below: of charges, each of which is one case.
     for charge in 0..4u32 {
         cut_at(rt, 1, charge, 0)?;
     }

@@ -8,6 +8,7 @@ use compensation::datasheet::{UP, UT};
 use compensation::text::{degrees, hectopascals};
 use figures::example::example_pairs;
 use flash::units::Unit;
+use layout::catalogue::name_of;
 use layout::meanings::Pair;
 use runs::requests::Request;
 use runs::rooms::Room;
@@ -16,15 +17,12 @@ use simulator::{Entry as Planned, Simulator};
 use std::alloc::Global;
 use store::entries::Entry;
 use store::refusals::Refusal;
+use store::steps::{Line, StepNumbers};
 use store::stores::Store;
 
 const BANKS: usize = 2;
 
 const UNITS: usize = 64;
-
-const NAMES: [&str; 14] = [
-    "?", "AC1", "AC2", "AC3", "AC4", "AC5", "AC6", "B1", "B2", "MB", "MC", "MD", "OSS", "PCOR",
-];
 
 // The keys of AC1 and PCOR.
 const AC1: u8 = 1;
@@ -36,6 +34,8 @@ const PCOR: u8 = 13;
 // flash that is on: one write, so that the second one of a commit is cut. For the recover after that: plenty. For the format at the end: two of its three writes.
 const CHARGES: [u32; 5] = [3 + 12 + 5, 12, 1, 100, 2];
 
+// A simulator of blank units whose power-ups bring these charges.
+// kept: a maker of its own, as in the other programs, which stand alone and have other plans and sizes.
 fn simulator(heap: Global) -> anyhow::Result<Simulator> {
     let table = vec![in heap; Unit::Blank; BANKS * UNITS]?;
     let mut simulator = Simulator::new(BANKS, UNITS, table)
@@ -133,11 +133,53 @@ fn show_number(rt: &impl Print, what: &str, answer: Result<u32, Refusal>) -> any
     Ok(())
 }
 
-fn name(key: u8) -> &'static str {
-    NAMES.get(usize::from(key)).copied().unwrap_or("?")
+fn show_abandon(rt: &impl Print, ticket: u32, answer: Result<(), Refusal>) -> anyhow::Result<()> {
+    print!(rt; "abandon of ticket {ticket}: ")?;
+    match answer {
+        Ok(()) => println!(rt; "done")?,
+        Err(refusal) => show_refusal(rt, refusal)?,
+    }
+    Ok(())
 }
 
-fn show_units_call(rt: &impl Print, entry: Entry) -> anyhow::Result<()> {
+fn name(key: u8) -> &'static str {
+    name_of(key).unwrap_or("?")
+}
+
+fn show_get(rt: &impl Print, key: u8, answer: Result<Option<i32>, Refusal>) -> anyhow::Result<()> {
+    print!(rt; "get {}: ", name(key))?;
+    match answer {
+        Ok(Some(value)) => println!(rt; "{value}")?,
+        Ok(None) => println!(rt; "no value")?,
+        Err(refusal) => show_refusal(rt, refusal)?,
+    }
+    Ok(())
+}
+
+fn show_temperature(
+    rt: &impl Print,
+    ut: i32,
+    answer: Result<StepNumbers, Refusal>,
+) -> anyhow::Result<()> {
+    print!(rt; "temperature from {ut}: ")?;
+    match answer {
+        Ok(step) => println!(rt; "{} degrees", degrees(step.t))?,
+        Err(refusal) => show_refusal(rt, refusal)?,
+    }
+    Ok(())
+}
+
+fn show_pressure(rt: &impl Print, up: i32, answer: Result<Line, Refusal>) -> anyhow::Result<()> {
+    print!(rt; "pressure from {up}: ")?;
+    match answer {
+        Ok(line) => println!(rt; "{} degrees, {} hPa", degrees(line.t), hectopascals(line.p))?,
+        Err(refusal) => show_refusal(rt, refusal)?,
+    }
+    Ok(())
+}
+
+// A call and what came of it.
+fn show(rt: &impl Print, entry: Entry) -> anyhow::Result<()> {
     match entry {
         Entry::Recover { answer } => {
             print!(rt; "recover: ")?;
@@ -153,61 +195,19 @@ fn show_units_call(rt: &impl Print, entry: Entry) -> anyhow::Result<()> {
             value,
             answer,
         } => {
-            print!(rt;
-                "put {} {value} into the change of ticket {ticket}: ",
-                name(key)
-            )?;
+            let name = name(key);
+            print!(rt; "put {name} {value} into the change of ticket {ticket}: ")?;
             show_number(rt, "pairs", answer)
         }
         Entry::Commit { ticket, answer } => {
             print!(rt; "commit of ticket {ticket}: ")?;
             show_number(rt, "number", answer)
         }
-        Entry::Abandon { ticket, answer } => {
-            print!(rt; "abandon of ticket {ticket}: ")?;
-            match answer {
-                Ok(()) => {
-                    println!(rt; "done")?;
-                    Ok(())
-                }
-                Err(refusal) => show_refusal(rt, refusal),
-            }
-        }
-        _ => Ok(()),
+        Entry::Abandon { ticket, answer } => show_abandon(rt, ticket, answer),
+        Entry::Get { key, answer } => show_get(rt, key, answer),
+        Entry::Temperature { ut, answer } => show_temperature(rt, ut, answer),
+        Entry::Pressure { up, answer, .. } => show_pressure(rt, up, answer),
     }
-}
-
-fn show_look(rt: &impl Print, entry: Entry) -> anyhow::Result<()> {
-    match entry {
-        Entry::Get { key, answer } => {
-            print!(rt; "get {}: ", name(key))?;
-            match answer {
-                Ok(Some(value)) => println!(rt; "{value}")?,
-                Ok(None) => println!(rt; "no value")?,
-                Err(refusal) => show_refusal(rt, refusal)?,
-            }
-        }
-        Entry::Temperature { ut, answer } => {
-            print!(rt; "temperature from {ut}: ")?;
-            match answer {
-                Ok(step) => println!(rt; "{} degrees", degrees(step.t))?,
-                Err(refusal) => show_refusal(rt, refusal)?,
-            }
-        }
-        Entry::Pressure { up, answer, .. } => {
-            print!(rt; "pressure from {up}: ")?;
-            match answer {
-                Ok(line) => println!(rt;
-                    "{} degrees, {} hPa",
-                    degrees(line.t),
-                    hectopascals(line.p)
-                )?,
-                Err(refusal) => show_refusal(rt, refusal)?,
-            }
-        }
-        _ => {}
-    }
-    Ok(())
 }
 
 fn show_format(rt: &impl Print, store: &mut Store<Simulator>) -> anyhow::Result<()> {
@@ -224,10 +224,7 @@ fn run(rt: &HostRuntime) -> anyhow::Result<()> {
     let log = make_calls(&mut store, &asked, room);
     for outcome in &log {
         match *outcome {
-            Some(entry) => {
-                show_units_call(rt, entry)?;
-                show_look(rt, entry)?;
-            }
+            Some(entry) => show(rt, entry)?,
             None => println!(rt; "not made: the ticket or the step is not there")?,
         }
     }

@@ -1,5 +1,5 @@
 -- The worked figures, by the definitions that the contracts use.
-use Rattle.std.specs.Prelude.{◌≡◌, ℕ, true, List, [], ◌∷◌, pos, negsuc, None, Ok, Err}
+use Rattle.std.specs.Prelude.{◌≡◌, ℕ, true, List, [], ◌∷◌, ℤ, pos, negsuc, None, Ok, Err}
 use Rattle.flash.specs.declared.units.Unit.TheVariants.{Blank, Programmed, Unreadable}
 use Rattle.layout.specs.declared.meanings.Pair.{Pair}
 use Rattle.layout.specs.Catalogue.{pair_of, admits}
@@ -9,6 +9,10 @@ use Rattle.store.specs.declared.refusals.Refusal.TheVariants.{NotAdmitted}
 use Rattle.store.specs.Refusals.{refusal_number}
 use Rattle.store.specs.Changes.{put_answer}
 use Rattle.mirror.specs.Mirrored.{mixed}
+
+-- a key with its coefficient, as a pair
+abbrev pub pair_from : ℕ × ℤ → Pair
+pair_from p = pair_of p.0 p.1
 
 -- the datasheet's coefficients AC1 to MD as pairs, keys 1 to 11; OSS and PCOR are absent
 abbrev pub example_pairs : List Pair

@@ -1,49 +1,31 @@
 // The datasheet's coefficients as pairs of a store.
-ghost use Rattle.std.specs.Prelude.{◌≡◌};
+ghost use Rattle.std.specs.Prelude.{◌≡◌, map};
 ghost use Rattle.layout.specs.Held.{pairs_of};
-ghost use Rattle.figures.specs.Figures.{example_pairs, WorkedFigures};
+ghost use Rattle.figures.specs.Figures.{pair_from, example_pairs, WorkedFigures};
 
+use compensation::datasheet::example_calibration;
 use layout::meanings::Pair;
 use layout::pairs::Pairs;
 
-// AC1 to AC6, B1, B2, MB, MC and MD, by their keys.
-const COEFFICIENTS: [Pair; 11] = [
-    Pair { key: 1, value: 408 },
-    Pair { key: 2, value: -72 },
-    Pair {
-        key: 3,
-        value: -14383,
-    },
-    Pair {
-        key: 4,
-        value: 32741,
-    },
-    Pair {
-        key: 5,
-        value: 32757,
-    },
-    Pair {
-        key: 6,
-        value: 23153,
-    },
-    Pair {
-        key: 7,
-        value: 6190,
-    },
-    Pair { key: 8, value: 4 },
-    Pair {
-        key: 9,
-        value: -32768,
-    },
-    Pair {
-        key: 10,
-        value: -8711,
-    },
-    Pair {
-        key: 11,
-        value: 2868,
-    },
-];
+// The keys of AC1 to AC6, B1, B2, MB, MC and MD, each with the datasheet's coefficient.
+fn keyed_coefficients() -> [(u8, i64); 11]
+    ensures { map pair_from result ≡ example_pairs }
+{
+    let k = example_calibration().values();
+    [
+        (1, k.ac1),
+        (2, k.ac2),
+        (3, k.ac3),
+        (4, k.ac4),
+        (5, k.ac5),
+        (6, k.ac6),
+        (7, k.b1),
+        (8, k.b2),
+        (9, k.mb),
+        (10, k.mc),
+        (11, k.md),
+    ]
+}
 
 // The datasheet's coefficients as pairs, in the order of their keys. The contract also says what the definitions give for the worked figures.
 pub fn example_pairs() -> Pairs
@@ -51,8 +33,10 @@ pub fn example_pairs() -> Pairs
     ensures figures { WorkedFigures }
 {
     let mut pairs = Pairs::new();
-    for pair in COEFFICIENTS {
-        let _ = pairs.lay(pair);
+    for (key, coefficient) in keyed_coefficients() {
+        // kept: `as`, proved to fit; `try_from` would answer an error that cannot come.
+        let value = coefficient as i32;
+        let _ = pairs.lay(Pair { key, value });
     }
     pairs
 }

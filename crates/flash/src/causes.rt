@@ -27,7 +27,7 @@ impl Cause {
         Cause { why, bank, unit }
     }
 
-    // kept: a match; as discriminants of the enum a number given twice would not compile, and the edit that gives one twice could show nothing
+    // kept: a match; as discriminants of the enum a number given twice would not compile, and the edit that gives one twice could show nothing.
     pub fn number(&self) -> u8
         ensures { result ≡ cause_number self.now }
     {

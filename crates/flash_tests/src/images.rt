@@ -22,7 +22,8 @@ fn open(heap: Global, bytes: &[u8]) -> Result<Image, Fail> {
     Ok(Image::open(bytes.to_vec(heap)?).ok().ok_or("image")?)
 }
 
-// kept: as `number`, for the check before opening.
+// What the check before opening refuses with, 0 where it accepts.
+// kept: a number, as `number` is; not one function with that of the simulator, since the two faults share no trait.
 fn refusal(bytes: &[u8]) -> u8 {
     match check_image(bytes) {
         Ok(_) => 0,
@@ -113,6 +114,7 @@ fn cut_erase_reaches_the_lower_half(rt: HostRuntime) -> Result<(), Fail> {
 }
 
 // The refusal of the three units with one byte changed.
+// kept: a number, as `refusal` gives it.
 fn changed(at: usize, to: u8) -> u8
     requires { at < 44 }
 {

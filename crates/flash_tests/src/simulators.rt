@@ -17,7 +17,8 @@ fn makes_blank_and_off(rt: HostRuntime) -> Result<(), Fail> {
     Ok(())
 }
 
-// kept: as `number`, for the check before making.
+// What the check before making refuses with, 0 where it accepts.
+// kept: a number, as `number` is; not one function with that of the image, since the two faults share no trait.
 fn refusal(banks: usize, width: usize, size: usize) -> u8 {
     match check_shape(banks, width, size) {
         Ok(_) => 0,
@@ -63,6 +64,7 @@ fn takes_entries_in_order(rt: HostRuntime) -> Result<(), Fail> {
 #[test]
 fn plan_has_sixteen_places(rt: HostRuntime) -> Result<(), Fail> {
     let mut s = small(rt.alloc())?;
+    // kept: a range: n entries were added before.
     for n in 0..16usize {
         s.power_up();
         assert_eq!(rt; s.add_entry(entry(1, 0, 0)), Some(n + 1));
@@ -77,6 +79,7 @@ fn cut_erase_goes_by_pattern(rt: HostRuntime) -> Result<(), Fail> {
     // Units 0 to 3 by 0, 1, 2 and 3.
     assert_eq!(rt; s.add_entry(entry(4, 0, 0b11_10_01_00)), Some(1));
     s.power_up();
+    // kept: a range: the flash is asked unit by unit.
     for u in 0..4usize {
         assert_eq!(rt; number(s.program(1, u, 7)), 0);
     }

@@ -17,7 +17,7 @@ pub enum OpenFault {
 }
 
 impl OpenFault {
-    // kept: a match; as discriminants of the enum a number given twice would not compile, and the edit that gives one twice could show nothing
+    // kept: a match; as discriminants of the enum a number given twice would not compile, and the edit that gives one twice could show nothing.
     pub fn number(&self) -> u8
         ensures { result ≡ open_number self.now }
     {

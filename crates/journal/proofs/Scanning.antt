@@ -1,35 +1,47 @@
 -- The walk by places keeps the number and the pairs of the reading, and the run that it counts stands directly before.
-use Rattle.std.proofs.Common.{◌≡◌, ℕ, suc, ◌+◌, ◌-◌, ◌<◌, ◌≤◌, Bool, true, false, cond, ◌&&◌, eqb, leb, List, [], ◌∷◌, ◌++◌, map, reverse, length, get_or, take, drop, Some, None, sym, refl, ap, ◌∙◌, add-one, arith}
+use Rattle.std.proofs.Common.{◌≡◌, ℕ, suc, ◌+◌, ◌-◌, ◌<◌, ◌≤◌, ◌^◌, Bool, true, false, cond, ◌&&◌, eqb, leb, List, [], ◌∷◌, ◌++◌, map, reverse, length, get_or, take, drop, Some, None, sym, refl, ap, ◌∙◌, subst, add-one, arith}
 use mathlib.Core.List.{reverse-cons}
 use Rattle.std.proofs.lemmas.List.{append_assoc, append-nil, map-append, length-append, length-map, length-reverse, length-take-le, length-drop, reverse-append, take-append-drop, take_more, take_at, drop_more, drop_all, drop_at, drop-append-le, drop-map}
 use Rattle.std.proofs.lemmas.Bool.{leb-true, le-leb}
+use Rattle.std.specs.declared.ops.Range.{Range}
+use Rattle.std.specs.Fn.{Called, Takes}
+use Rattle.std.specs.Iterator.{Yields, FoldTurn, FoldsItems, CallableInFold}
+use Rattle.std.specs.List.{FoldsTo}
+use Rattle.std.proofs.iter.Yields.{nat_range_steps}
+use denote.Param.Members.{Mut}
 use Rattle.layout.specs.declared.meanings.Pair.{Pair}
 use Rattle.layout.specs.declared.meanings.Meaning.{Meaning}
 use Rattle.layout.specs.declared.meanings.Meaning.TheVariants.{Noise, Record, Commit, Header}
 use Rattle.layout.specs.PairLists.{rising}
 use Rattle.journal.specs.Reading.{Progress, newest, counts, taken, passed, step, steps, leading, lawful}
-use Rattle.journal.specs.Log.{records_of, Tally, counted_at, tally_with, tally_step}
+use Rattle.layout.specs.Held.{pairs_of}
+use Rattle.journal.specs.declared.logs.Log.{Log}
+use Rattle.journal.specs.declared.logs.Start.{Start}
+use Rattle.journal.specs.Log.{records_of, Tally, tally, counted_at, tally_with, tally_step}
 
-abbrev pub tally_of : Progress → Tally
+abbrev tally_of : Progress → Tally
 tally_of s = record { number = s.number; pairs = s.pairs; run = length s.run }
 
-pub record Scanned (ms : List Meaning) (s₀ : Progress) (from unit : ℕ) (t : Tally) : Type 0 where
+record Scanned (ms : List Meaning) (s₀ : Progress) (from unit : ℕ) (t : Tally) : Type 0 where
   s : Progress
   is : t ≡ tally_of s
   onward : steps s (drop unit ms) ≡ steps s₀ (drop from ms)
   front : List Meaning
   behind : take unit ms ≡ front ++ map Record (reverse s.run)
-  pub few : t.run ≤ unit
+  few : t.run ≤ unit
 
-pub scanned_none : (ms : List Meaning) (n : ℕ) (ps : List Pair) (from : ℕ) →
-    Scanned ms (record { number = n; pairs = ps; run = [] }) from from (record { number = n; pairs = ps; run = 0 })
-scanned_none ms n ps from = record {
-  s = record { number = n; pairs = ps; run = [] };
-  is = refl;
+-- the walk that a lawful header begins
+abbrev pub begun : Start → Progress
+begun o = record { number = o.log.number; pairs = pairs_of o.log.pairs; run = [] }
+
+scanned_none : (ms : List Meaning) (o : Start) → Scanned ms (begun o) o.next o.next (tally o.log)
+scanned_none ms o = record {
+  s = begun o;
+  is = λ i. record { number = o.log.number; pairs = pairs_of o.log.pairs; run = o.fresh i };
   onward = refl;
-  front = take from ms;
-  behind = sym (append-nil (take from ms));
-  few = omega arith;
+  front = take o.next ms;
+  behind = sym (append-nil (take o.next ms));
+  few = omega (arith, o.fresh);
 }
 
 skip : (xs ys : List Meaning) (n : ℕ) → drop (length xs + n) (xs ++ ys) ≡ drop n ys
@@ -120,7 +132,7 @@ module _ (ms : List Meaning) (s₀ : Progress) (from unit : ℕ) (t : Tally) (x 
       go true = refl
       go false = refl
 
-  pub scanned_more : (m : Meaning) → get_or ms unit Noise ≡ m → (t' : Tally) → t' ≡ tally_step ms unit t m → Scanned ms s₀ from (unit + 1) t'
+  scanned_more : (m : Meaning) → get_or ms unit Noise ≡ m → (t' : Tally) → t' ≡ tally_step ms unit t m → Scanned ms s₀ from (unit + 1) t'
   scanned_more Noise e t' q = quiet Noise e refl t' (q ∙ ap (λ z. tally_step ms unit z Noise) x.is)
   scanned_more (Header c n) e t' q = quiet (Header c n) e refl t' (q ∙ ap (λ z. tally_step ms unit z (Header c n)) x.is)
   scanned_more (Commit c n) e t' q =
@@ -139,8 +151,50 @@ module _ (ms : List Meaning) (s₀ : Progress) (from unit : ℕ) (t : Tally) (x 
         few = omega (arith, ap (λ (z : Tally). z.run) q, x.few);
       }
 
-pub scanned_all : (ms : List Meaning) (s₀ : Progress) (from unit : ℕ) (t : Tally) → Scanned ms s₀ from unit t → length ms ≤ unit →
+scanned_all : (ms : List Meaning) (s₀ : Progress) (from unit : ℕ) (t : Tally) → Scanned ms s₀ from unit t → length ms ≤ unit →
     (t.pairs ≡ (steps s₀ (drop from ms)).pairs) × (t.number ≡ (steps s₀ (drop from ms)).number)
 scanned_all ms s₀ from unit t x h =
     let e : x.s ≡ steps s₀ (drop from ms) = sym (ap (steps x.s) (drop_all unit ms h)) ∙ x.onward in
     (ap (λ (z : Tally). z.pairs) x.is ∙ ap (λ (z : Progress). z.pairs) e, ap (λ (z : Tally). z.number) x.is ∙ ap (λ (z : Progress). z.number) e)
+
+-- The same for a fold over places, by calls that each take a log one unit further.
+module _ {F : Type 0} {g : Mut F (Log × (ℕ × Unit {0})) Log} (ms : List Meaning) (o : Start) (f : F)
+    (one : (l : Log) (x : ℕ) (r : Log) (q : F) → Called g f (l, (x, tt)) r q → (q ≡ f) × (tally r ≡ tally_step ms x (tally l) (get_or ms x Noise))) where
+  -- the log has come to the first of the places left
+  record At (s : Range ℕ) (p : F × Log) : Type 0 where
+    same : p.0 ≡ f
+    end : s.end ≡ length ms
+    log : Scanned ms (begun o) o.next s.start (tally p.1)
+
+  folded : (xs : List ℕ) (s t : Range ℕ) (p q : F × Log) → At s p → Yields nat_range_steps s xs t → FoldsTo (FoldTurn g) p xs q → At t q
+  folded [] s t p q a y c = subst (λ z. At z q) y (subst (At s) c a)
+  folded (x ∷ xs) s t p q a (m, step, y) (k, call, c) =
+      let d = one p.1 x k.1 k.0 (subst (λ z. Called g z (p.1, (x, tt)) k.1 k.0) a.same call) in
+      let here : x ≡ s.start = step.1.1 in
+      let next : m.start ≡ x + 1 = omega (arith, here, step.1.2) in
+      let h : x < length ms = omega (arith, a.end, here, step.1.0) in
+      let l : Scanned ms (begun o) o.next x (tally p.1) = subst (λ n. Scanned ms (begun o) o.next n (tally p.1)) (sym here) a.log in
+      folded xs m t k q
+      (record {
+        same = d.0;
+        end = step.0 ∙ a.end;
+        log = subst (λ n. Scanned ms (begun o) o.next n (tally k.1)) (sym next) (scanned_more ms (begun o) o.next x (tally p.1) l h _ refl (tally k.1) d.1);
+      }) y c
+
+  module _ (end : ℕ) (e : end ≡ length ms) where
+    from_header : At (record { start = o.next; end = end }) (f, o.log)
+    from_header = record { same = refl; end = e; log = scanned_none ms o }
+
+    pub fold_callable : length ms ≤ 4096 → ((l : Log) (x : ℕ) → l.run ≤ x → x < 2 ^ 63 → Takes g f (l, (x, tt))) →
+        CallableInFold nat_range_steps g (record { start = o.next; end = end }) f o.log
+    fold_callable few may = record {
+      at = λ xs t q x u y c step.
+          let a = folded xs _ t _ q from_header y c in
+          subst (λ z. Takes g z (q.1, (x, tt))) (sym a.same) (may q.1 x (omega (arith, a.log.few, step.1.1)) (omega (arith, few, a.end, step.1.0, step.1.1)));
+    }
+
+    pub fold_all : (r : Log) → FoldsItems nat_range_steps g (record { start = o.next; end = end }) f o.log r →
+        (pairs_of r.pairs ≡ (steps (begun o) (drop o.next ms)).pairs) × (r.number ≡ (steps (begun o) (drop o.next ms)).number)
+    fold_all r (xs, f', (u, w), c) =
+        let a = folded xs _ w.0 _ (f', r) from_header w.1 c in
+        scanned_all ms (begun o) o.next w.0.start (tally r) a.log (omega (arith, a.end, w.2.1.0))

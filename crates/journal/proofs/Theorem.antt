@@ -9,7 +9,7 @@ use Rattle.layout.proofs.WellFormed.{well_formed_parts, well_formed_merged, well
 use Rattle.journal.specs.Reading.{Banks, bank, Reading, reads}
 use Rattle.journal.specs.Writes.{Write, program, AllReady, Leaves}
 use Rattle.journal.specs.Commit.{records, appending, moving, other, fits, commit_writes, writes_needed, Roomy, Change, Holds, WholeOrAbsent}
-use Rattle.journal.proofs.Sound.{Good, good_closing, closing_bits}
+use Rattle.journal.proofs.Sound.{Good, good_closing}
 use Rattle.journal.proofs.Programs.{length_programs}
 use Rattle.journal.proofs.Active.{reads_found}
 use Rattle.journal.proofs.Append.{append_ready, append_whole, append_cut}
@@ -51,22 +51,14 @@ other_which a (inl e) = inr (omega arith)
 other_which a (inr e) = inl (omega arith)
 
 module _ (width : ℕ) (bs : Banks) (r : Reading) (d : Roomy width bs) (read : reads bs ≡ Some r) where
-  -- what is read is well-formed, and its end stands in the bank
-  pub read_which : (r.active ≡ 0) ⊎ (r.active ≡ 1)
-  read_which = (reads_found bs r read).active.which
-
+  -- what is read is well-formed
   read_good : Good r.pairs
   read_good =
       let f = reads_found bs r read in
       subst (λ (x : Reading). Good x.pairs) f.is (good_closing (bank r.active bs) f.o f.active.opens)
 
-  pub read_formed : well_formed r.pairs ≡ true
+  read_formed : well_formed r.pairs ≡ true
   read_formed = and_from _ _ read_good.rises read_good.admits
-
-  pub read_bits : r.number < 2 ^ 32
-  read_bits =
-      let f = reads_found bs r read in
-      omega (arith, closing_bits (bank r.active bs) f.o f.active.opens, ap (λ x. x.number) f.is)
 
   module _ (change : List Pair) (c : Change change) (small : r.number + 1 < 2 ^ 32) where
     outcome : (b : Bool) → fits width r change ≡ b →

@@ -24,7 +24,7 @@ records_of c ms = cond (lawful c ms) (Some (take c (leading ms))) None
 
 -- what a lawful header gives, among these units
 abbrev pub opening_at : List Meaning → Start → Opening
-opening_at ms o = record { number = o.number; pairs = pairs_of o.pairs; rest = drop o.next ms }
+opening_at ms o = record { number = o.log.number; pairs = pairs_of o.log.pairs; rest = drop o.next ms }
 
 -- the number and the pairs so far, and how many valid records stand directly before
 pub record Tally : Type 0 where

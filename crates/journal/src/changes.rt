@@ -10,6 +10,7 @@ use layout::merge::merged;
 use layout::pairs::Pairs;
 
 // What stands when a change with this number was written whole, in banks of `units` units.
+// kept: the parameters of `write_change`, for the reason given there.
 pub fn standing_after(standing: &Standing, change: &Pairs, number: u32, units: usize) -> Standing
     ensures { reading_of result ≡ committed units (reading_of standing.now) (pairs_of change.now) number }
 {

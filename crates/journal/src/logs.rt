@@ -1,13 +1,7 @@
 // What a walk over a bank keeps.
-use layout::pairs::Pairs;
+ghost use Rattle.std.specs.Prelude.{◌≡◌};
 
-// What a lawful header gives: its number, its pairs, and the unit after its records.
-#[derive(Clone, Copy)]
-pub struct Start {
-    pub number: u32,
-    pub pairs: Pairs,
-    pub next: usize,
-}
+use layout::pairs::Pairs;
 
 // The number and the pairs so far, and how many valid records stand directly before the next unit.
 #[derive(Clone, Copy)]
@@ -15,4 +9,14 @@ pub struct Log {
     pub number: u32,
     pub pairs: Pairs,
     pub run: usize,
+}
+
+// Where a walk begins: what a lawful header gives, and the unit after its records.
+#[derive(Clone, Copy)]
+pub struct Start {
+    pub log: Log,
+    pub next: usize,
+
+    // No commit can count the header's own records.
+    ghost fresh: { log.run ≡ 0 },
 }

@@ -24,7 +24,6 @@ pub(crate) struct BankView<'a, F> {
     pub bank: usize,
 }
 
-// kept: loops over ranges of places; no list stands behind them, a flash is asked unit by unit.
 impl<F: Flash> BankView<'_, F> {
     // What a unit holds; blank where nothing can be read.
     fn unit(&self, at: usize) -> Unit
@@ -45,6 +44,8 @@ impl<F: Flash> BankView<'_, F> {
         requires { from + count < 2 ^ 64 }
         ensures { option_map pairs_of result ≡ records_of count (drop from (said F.Flash self.now)) }
     {
+        // kept: a loop with the last key beside the pairs, 0 before the first, since keys begin at 1. A `try_fold` would carry both in
+        // a tuple and drop the key at the end, with the same two reasons to stop in its closure.
         let mut pairs = Pairs::new();
         let mut last = 0;
         for unit in from..from + usize::from(count) {
@@ -69,8 +70,11 @@ impl<F: Flash> BankView<'_, F> {
         };
         let pairs = self.records(1, count)?;
         Some(Start {
-            number,
-            pairs,
+            log: Log {
+                number,
+                pairs,
+                run: 0,
+            },
             next: 1 + usize::from(count),
         })
     }
@@ -79,7 +83,7 @@ impl<F: Flash> BankView<'_, F> {
     pub(crate) fn header_number(&self) -> Option<u32>
         ensures { result ≡ header_number (shown F.Flash self.now) }
     {
-        self.start().map(|start| start.number)
+        self.start().map(|start| start.log.number)
     }
 
     // The pairs that a commit at this unit adds, if it counts.
@@ -87,7 +91,7 @@ impl<F: Flash> BankView<'_, F> {
         requires { log.now.run ≤ unit }
         ensures { option_map pairs_of result ≡ counted_at (said F.Flash self.now) unit count number (tally log.now) }
     {
-        if u64::from(number) == u64::from(log.number) + 1 && usize::from(count) <= log.run {
+        if log.number.checked_add(1) == Some(number) && usize::from(count) <= log.run {
             self.records(unit - usize::from(count), count)
         } else {
             None
@@ -124,30 +128,18 @@ impl<F: Flash> BankView<'_, F> {
         ensures pairs { pairs_of result.pairs ≡ (closing (opening_at (said F.Flash self.now) start)).pairs }
         ensures number { result.number ≡ (closing (opening_at (said F.Flash self.now) start)).number }
     {
-        let mut log = Log {
-            number: start.number,
-            pairs: start.pairs,
-            run: 0,
-        };
-        for unit in start.next..units {
-            log = self.step(unit, log);
-        }
-        log
+        (start.next..units).fold(start.log, |log, unit| self.step(unit, log))
     }
 
     // The place after the last unit that is not blank.
     fn end(&self, units: usize) -> usize
         requires long { length (shown F.Flash self.now) ≡ units }
-        requires few { units ≤ 4096 }
         ensures { result ≡ end_of (shown F.Flash self.now) }
     {
-        for unit in (0..units).rev() {
-            match self.unit(unit) {
-                Unit::Blank => {}
-                Unit::Programmed(_) | Unit::Unreadable => return unit + 1,
-            }
-        }
-        0
+        (0..units)
+            .rev()
+            .find(|&unit| self.unit(unit) != Unit::Blank)
+            .map_or(0, |unit| unit + 1)
     }
 
     // What the bank stands for, if its header is lawful.

@@ -25,13 +25,10 @@ fn program_records<F: Flash>(
     ensures writes { Performed F.Fault.FlashFault (records bank from (pairs_of pairs.now)) (seen F.Flash flash.old) (seen F.Flash flash.new) result }
     ensures next { IfOk result (λ at. at ≡ from + length (pairs_of pairs.now)) }
 {
-    // kept: a unit counted on beside the pairs, since the unit after them is the answer.
-    let mut at = from;
-    for pair in pairs {
-        flash.program(bank, at, encode_record(pair))?;
-        at += 1;
+    for (i, pair) in pairs.iter().enumerate() {
+        flash.program(bank, from + i, encode_record(pair))?;
     }
-    Ok(at)
+    Ok(from + pairs.len())
 }
 
 // Writes a change at the end of what stands: its records, then a commit of its count and of the number.
@@ -70,6 +67,8 @@ pub fn format_banks<F: Flash>(flash: &mut F) -> Result<(), F::Fault>
 
 // Writes a change with its number over the units that stand: behind the end of the active bank if it fits there, and
 // otherwise, merged with the standing pairs, into the other bank.
+// kept: standing, change and number as parameters, here and in `append`; a caller has each in a place of its own and would build a
+// struct of them for this one call.
 pub fn write_change<F: Flash>(
     flash: &mut F,
     standing: &Standing,

@@ -1,10 +1,10 @@
 -- A table whose rows say what they should says it at each place; which pairs it admits, and which key it gives a name.
-use Rattle.std.proofs.Common.{◌≡◌, ℕ, zero, suc, ◌+◌, ◌<◌, Bool, true, false, cond, ◌&&◌, ◌||◌, ◌==◌, ltb, leb, List, [], ◌∷◌, map, length, get_or, Some, Option, sym, refl, ap, ◌∙◌, le_of_suc-le-suc, not-suc-le-zero, add-zero, add-suc, suc-add, add-one, arith}
+use Rattle.std.proofs.Common.{◌≡◌, ℕ, zero, suc, ◌+◌, ◌<◌, Bool, true, false, cond, ◌&&◌, ◌||◌, ◌==◌, ltb, leb, List, [], ◌∷◌, map, length, get_or, Some, Option, option_map, sym, refl, ap, ◌∙◌, le_of_suc-le-suc, not-suc-le-zero, add-zero, add-suc, suc-add, add-one, arith}
 use Rattle.std.proofs.lemmas.Bool.Decides.{nat_tests}
 use Rattle.std.specs.Option.{option_map_or}
 use Rattle.std.specs.Str.{bytes_eq}
 use Rattle.std.specs.List.{list_any, find}
-use Rattle.layout.specs.Catalogue.{limits, names, within, key_from}
+use Rattle.layout.specs.Catalogue.{limits, names, within, key_from, name_from}
 use Rattle.layout.specs.Rows.{RowText, limits_of, row_says, rows_from, RowSays}
 use Rattle.layout.specs.declared.catalogue.Row.{Row}
 use Rattle.layout.specs.declared.meanings.Pair.{Pair}
@@ -68,3 +68,21 @@ rows_name (r ∷ rs) k (n ∷ ns) w e =
     ∙ ap (λ m. cond (bytes_eq m w) r.key others) (ap (λ s. s.1) first)
     ∙ ap (λ j. cond (bytes_eq n w) j others) (ap (λ s. s.0) first)
     ∙ ap (cond (bytes_eq n w) (suc k)) (rows_name rs (suc k) ns w (cc) ∙ ap (λ j. key_from j ns w) (sym (add-one (suc k))))
+
+name_of_first : (b : Bool) (r : Row) (o : Option Row) →
+    option_map (λ (r : Row). r.name.now) (cond b (Some r) o) ≡ cond b (Some r.name.now) (option_map (λ (r : Row). r.name.now) o)
+name_of_first true r o = refl
+name_of_first false r o = refl
+
+pub rows_key : (rows : List Row) (k : ℕ) (ns : List (List ℕ)) (q : ℕ) → map row_says rows ≡ rows_from k ns →
+    option_map (λ (r : Row). r.name.now) (find (λ (r : Row). r.key == q) rows) ≡ name_from (suc k) ns q
+rows_key [] k [] q e = refl
+rows_key [] k (n ∷ ns) q e = cc
+rows_key (r ∷ rs) k [] q e = cc
+rows_key (r ∷ rs) k (n ∷ ns) q e =
+    let first : row_says r ≡ (suc k, n, limits (suc k)) = cc in
+    let others = option_map (λ (r : Row). r.name.now) (find (λ (r : Row). r.key == q) rs) in
+    name_of_first (r.key == q) r (find (λ (r : Row). r.key == q) rs)
+    ∙ ap (λ m. cond (r.key == q) (Some m) others) (ap (λ s. s.1) first)
+    ∙ ap (λ j. cond (j == q) (Some n) others) (ap (λ s. s.0) first)
+    ∙ ap (cond (suc k == q) (Some n)) (rows_key rs (suc k) ns q (cc) ∙ ap (λ j. name_from j ns q) (sym (add-one (suc k))))

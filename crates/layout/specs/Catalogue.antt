@@ -1,5 +1,5 @@
 -- The catalogue: which keys there are, and which values each admits.
-use Rattle.std.specs.Prelude.{ℕ, ◌+◌, Bool, true, false, cond, not, ◌&&◌, ◌||◌, List, [], ◌∷◌, ℤ, pos, negsuc, codes, ◌==◌, int_le, nat_le}
+use Rattle.std.specs.Prelude.{ℕ, ◌+◌, Bool, true, false, cond, not, ◌&&◌, ◌||◌, List, [], ◌∷◌, ℤ, pos, negsuc, codes, ◌==◌, int_le, nat_le, ◌≡◌, map, Option, Some, None}
 use Rattle.std.specs.Str.{bytes_eq}
 use Rattle.layout.specs.declared.meanings.Pair.{Pair}
 
@@ -58,3 +58,15 @@ key_from k (n ∷ ns) w = cond (bytes_eq n w) k (key_from (k + 1) ns w)
 
 unfoldable pub key_named : List ℕ → ℕ
 key_named w = key_from 1 names w
+
+-- the name of a key, where the names are those of the keys from k on; none where it is none of these
+abbrev pub name_from : ℕ → List (List ℕ) → ℕ → Option (List ℕ)
+name_from k [] key = None
+name_from k (n ∷ ns) key = cond (k == key) (Some n) (name_from (k + 1) ns key)
+
+unfoldable pub name_of : ℕ → Option (List ℕ)
+name_of key = name_from 1 names key
+
+-- the names of the keys 1 to 13, in their order, are told apart: each is that of its own key alone
+abbrev pub NamesTellKeys : Type 0
+NamesTellKeys = map key_named names ≡ (1 ∷ 2 ∷ 3 ∷ 4 ∷ 5 ∷ 6 ∷ 7 ∷ 8 ∷ 9 ∷ 10 ∷ 11 ∷ 12 ∷ 13 ∷ [])

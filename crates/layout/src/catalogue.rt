@@ -1,7 +1,8 @@
 // The catalogue: the keys of coefficients and settings, their names, and which values each admits.
 ghost use Rattle.std.specs.Prelude.{◌≡◌, ℕ, ◌==◌, ◌&&◌, ◌<◌, map, slice_index_or};
+ghost use Rattle.std.specs.Option.{option_map};
 ghost use Rattle.layout.specs.declared.catalogue.Row.{Row};
-ghost use Rattle.layout.specs.Catalogue.{names, is_key, key_named, is_hole, within, admits as admitted};
+ghost use Rattle.layout.specs.Catalogue.{names, is_key, key_named, is_hole, within, admits as admitted, name_of, NamesTellKeys};
 ghost use Rattle.layout.specs.Rows.{limits_of, row_says, rows_from, RowSays};
 
 use crate::meanings::Pair;
@@ -22,6 +23,7 @@ struct Row {
     pub limits: Limits,
 }
 
+// kept: the ranges that `compensation` has as well: neither crate depends on the other, since a store knows no arithmetic.
 const SIGNED: Limits = Limits {
     low: -32768,
     high: 32767,
@@ -170,4 +172,12 @@ pub fn key_named(name: &str) -> u8
         .iter()
         .find(|row| row.name == name)
         .map_or(0, |row| row.key)
+}
+
+// The name of a key; none where the catalogue has no such key.
+pub fn name_of(key: u8) -> Option<&'static str>
+    ensures name { option_map (λ name. name.now) result ≡ name_of key }
+    ensures apart { NamesTellKeys }
+{
+    rows().iter().find(|row| row.key == key).map(|row| row.name)
 }

@@ -46,7 +46,7 @@ impl Pairs {
     }
 
     // Adds a pair or replaces the one of its key; false, and no change, where the catalogue does not admit it.
-    // kept: the answer is a bool, as a set's `insert` gives one: there is one way only to fail.
+    // kept: the answer is a bool: there is one way only to fail, and the pair that was refused is the caller's copy.
     pub fn lay(&mut self, pair: Pair) -> bool
         ensures answer { result ≡ admitted pair }
         ensures pairs { pairs_in self.new.table ≡ (if admitted pair then with_pair pair (pairs_in self.old.table) else pairs_in self.old.table) }

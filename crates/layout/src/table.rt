@@ -36,6 +36,7 @@ impl Table {
     }
 
     // How many keys stand before this one.
+    // kept: no `partition_point`: its answer needs rising keys, a premise that the table does not have and three methods would have to ask for.
     pub(crate) fn place(&self, key: u8) -> usize
         requires { self.now.len ≤ 13 }
         ensures { result ≡ place_of key (take self.now.len self.now.keys) }

@@ -25,6 +25,9 @@ mod tests {
         assert_eq!(rt; key_named("AC1"), 1);
         assert_eq!(rt; key_named("PCOR"), 13);
         assert_eq!(rt; key_named("AC7"), 0);
+        assert_eq!(rt; name_of(0), None);
+        assert_eq!(rt; name_of(8), Some("B2"));
+        assert_eq!(rt; name_of(14), None);
         assert!(rt; is_key(13));
         assert!(rt; !is_key(14));
         assert!(rt; admits(pair(4, 65534)));

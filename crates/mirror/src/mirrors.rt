@@ -151,6 +151,7 @@ impl<A: Flash, B: Flash> Flash for Mirror<A, B> {
         }
     }
 
+    // kept: as in `read`; here no unit is asked for, and the fault has none.
     fn erase(&mut self, bank: usize) -> Result<(), MirrorFault<A::Fault, B::Fault>>
         ensures erases { Erase (mirror_fault A.Fault.FlashFault B.Fault.FlashFault) (mirrored (seen A.Flash self.old.first) (seen B.Flash self.old.second)) bank (mirrored (seen A.Flash self.new.first) (seen B.Flash self.new.second)) result }
         ensures sides { EraseSides A.Fault.FlashFault B.Fault.FlashFault (seen A.Flash self.old.first) (seen B.Flash self.old.second) (seen A.Flash self.new.first) (seen B.Flash self.new.second) bank result }

@@ -22,6 +22,7 @@ fn blank_image(heap: Global) -> anyhow::Result<Image> {
 }
 
 // A simulator whose first power-up completes two writes and whose cut leaves its unit unreadable.
+// kept: a maker of its own, as in the other programs, which stand alone and have other plans and sizes.
 fn short_simulator(heap: Global) -> anyhow::Result<Simulator> {
     let table = vec![in heap; Unit::Blank; UNITS]?;
     let mut simulator = Simulator::new(1, UNITS, table)

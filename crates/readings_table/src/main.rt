@@ -69,15 +69,15 @@ fn parsed(line: &str) -> Option<Reading> {
     })
 }
 
-fn show(rt: &impl Print, line: &str, k: &Calibration, ut: i32, up: i32) -> anyhow::Result<()> {
-    let t = match k.temperature(ut) {
+fn show(rt: &impl Print, line: &str, k: &Calibration, reading: Reading) -> anyhow::Result<()> {
+    let t = match k.temperature(reading.ut) {
         Ok(t) => t,
         Err(refusal) => {
             println!(rt; "{line},{},,,,", refusal.number())?;
             return Ok(());
         }
     };
-    match k.pressure(t.b5, up) {
+    match k.pressure(t.b5, reading.up) {
         Ok(p) => println!(rt; "{line},,{},{},,{}", t.b5, t.t, p.pa)?,
         Err(refusal) => println!(rt; "{line},,{},{},{},", t.b5, t.t, refusal.number())?,
     }
@@ -90,7 +90,7 @@ fn answer(rt: &impl Print, line: &str) -> anyhow::Result<()> {
         return Ok(());
     };
     match Calibration::new(reading.coefficients) {
-        Some(k) => show(rt, line, &k, reading.ut, reading.up),
+        Some(k) => show(rt, line, &k, reading),
         None => {
             println!(rt; "{line}: a coefficient outside its range")?;
             Ok(())

@@ -1,6 +1,6 @@
 -- Steps in a table, by their places.
-use Rattle.std.proofs.Common.{◌≡◌, ℕ, ◌<◌, ◌≤◌, List, length, get_or, set, Some, None, Option, sym, refl, ap, ◌∙◌, arith}
-use Rattle.std.proofs.lemmas.List.{get_or-map, get_or_past, map-set, set-get_or, length-map}
+use Rattle.std.proofs.Common.{◌≡◌, ℕ, ◌<◌, List, length, get_or, set, Some, None, Option, sym, ap, ◌∙◌}
+use Rattle.std.proofs.lemmas.List.{get_or-map, map-set, set-get_or}
 use Rattle.store.specs.declared.steps.Step.{Step}
 use Rattle.store.specs.declared.steps.StepNumbers.{StepNumbers}
 use Rattle.runs.specs.Held.{numbers_in, step_numbers, StepTaken}

@@ -1,5 +1,5 @@
 -- What a run holds between its calls.
-use Rattle.std.specs.Prelude.{◌≡◌, ℕ, ◌<◌, Bool, true, false, cond, ◌||◌, List, [], ◌∷◌, map, length, Some, None, Option, ◌==◌, ◌≢◌, slice_index_or, slice_set}
+use Rattle.std.specs.Prelude.{◌≡◌, ℕ, Bool, true, false, cond, ◌||◌, List, [], ◌∷◌, map, Some, None, Option, ◌==◌, slice_index_or, slice_set}
 use Rattle.std.specs.Borrow.{Bor}
 use Rattle.store.specs.declared.steps.Step.{Step}
 use Rattle.store.specs.declared.steps.StepNumbers.{StepNumbers}
@@ -40,13 +40,6 @@ has j (x ∷ xs) = x == j || has j xs
 abbrev pub without : ℕ → List ℕ → List ℕ
 without j [] = []
 without j (x ∷ xs) = cond (x == j) xs (x ∷ without j xs)
-
-abbrev pub number_at : List Ticket → ℕ → ℕ
-number_at ts k = ticket_number (slice_index_or ts k (record { number = 0 }))
-
-abbrev pub Found : List Ticket → ℕ → Option ℕ → Type 0
-Found ts j None = (k : ℕ) → k < length ts → number_at ts k ≢ j
-Found ts j (Some i) = (i < length ts) × (number_at ts i ≡ j) × ((k : ℕ) → k < i → number_at ts k ≢ j)
 
 abbrev pub Seen : List ℕ → ℕ → Option (Bor Ticket) → Type 0
 Seen hs j None = has j hs ≡ false

@@ -1,22 +1,16 @@
 // What a run holds between its calls: the tickets that it was given and has not handed back, and the steps that it was given, each
 // until it is used. Both tables have their room from the start, so that no ticket is ever lost for want of memory.
-ghost use Rattle.std.specs.Prelude.{◌≡◌, ℕ, suc, ◌≤◌, [], ◌∷◌, ◌++◌, Some, vec_len};
-ghost use Rattle.runs.specs.Held.{Found, Seen, Taken, StepTaken, held};
-ghost use Rattle.runs.specs.Hands.{held_by, Spare};
+ghost use Rattle.std.specs.Prelude.{◌≡◌, [], ◌∷◌, ◌++◌, Some};
+ghost use Rattle.runs.specs.Held.{Seen, Taken, StepTaken, held};
+ghost use Rattle.runs.specs.Hands.{held_by, Spare, OneMore};
 
+use std::collections::VecDeque;
 use store::steps::{Step, StepNumbers};
 use store::tickets::Ticket;
 
 pub(crate) struct Hand {
-    pub tickets: Vec<Ticket>,
+    pub tickets: VecDeque<Ticket>,
     pub steps: Vec<Option<Step>>,
-}
-
-// The place of the first ticket of this number.
-fn find(tickets: &[Ticket], number: u32) -> Option<usize>
-    ensures { Found tickets.now number result }
-{
-    tickets.iter().position(|ticket| ticket.number() == number)
 }
 
 impl Hand {
@@ -24,20 +18,22 @@ impl Hand {
     pub(crate) fn look(&self, number: u32) -> Option<&Ticket>
         ensures { Seen (held_by self.now).tickets number result }
     {
-        let i = find(&self.tickets, number)?;
-        Some(&self.tickets[i])
+        self.tickets.iter().find(|ticket| ticket.number() == number)
     }
 
-    // kept: `room` in four contracts; it relates a hand before and after, so that no field can hold it.
     // Hands back the first ticket of this number.
+    // kept: `OneMore` in eight contracts, here and in `running`, and `Spare 1` in five: the one relates a hand before and after, the other is used
+    // up by what is kept, so that no field can hold either.
     pub(crate) fn take(&mut self, number: u32) -> Option<Ticket>
         ensures taken { Taken (held_by self.old).tickets number result (held_by self.new).tickets }
         ensures steps { (held_by self.new).steps ≡ (held_by self.old).steps }
-        ensures room { (n : ℕ) → Spare (suc n) self.old → Spare n self.new }
-        ensures fewer { vec_len self.new.tickets ≤ vec_len self.old.tickets }
+        ensures room { OneMore self.old self.new }
     {
-        let i = find(&self.tickets, number)?;
-        Some(self.tickets.remove(i))
+        let place = self
+            .tickets
+            .iter()
+            .position(|ticket| ticket.number() == number)?;
+        self.tickets.remove(place)
     }
 
     // Holds one ticket more, and answers its number.
@@ -45,22 +41,20 @@ impl Hand {
         requires { Spare 1 self.old }
         ensures number { result ≡ ticket.number }
         ensures kept { held_by self.new ≡ held ((held_by self.old).tickets ++ (ticket.number ∷ [])) (held_by self.old).steps }
-        ensures room { (n : ℕ) → Spare (suc n) self.old → Spare n self.new }
-        ensures more { vec_len self.new.tickets ≡ suc (vec_len self.old.tickets) }
+        ensures room { OneMore self.old self.new }
     {
         let number = ticket.number();
-        self.tickets.push_reserved(ticket);
+        self.tickets.push_back_reserved(ticket);
         number
     }
 
-    // kept: beside `keep`, since each contract says which of the two tables grows.
     // Holds one step more, and answers its numbers.
+    // kept: beside `keep`, since each contract says which of the two tables grows.
     pub(crate) fn keep_step(&mut self, step: Step) -> StepNumbers
         requires { Spare 1 self.old }
         ensures numbers { result ≡ step.numbers }
         ensures kept { held_by self.new ≡ held (held_by self.old).tickets ((held_by self.old).steps ++ (Some step.numbers ∷ [])) }
-        ensures room { (n : ℕ) → Spare (suc n) self.old → Spare n self.new }
-        ensures same { vec_len self.new.tickets ≡ vec_len self.old.tickets }
+        ensures room { OneMore self.old self.new }
     {
         let numbers = step.numbers();
         self.steps.push_reserved(Some(step));
@@ -71,8 +65,7 @@ impl Hand {
     pub(crate) fn take_step(&mut self, place: usize) -> Option<Step>
         ensures taken { StepTaken (held_by self.old).steps place result (held_by self.new).steps }
         ensures tickets { (held_by self.new).tickets ≡ (held_by self.old).tickets }
-        ensures room { (n : ℕ) → Spare (suc n) self.old → Spare n self.new }
-        ensures same { vec_len self.new.tickets ≡ vec_len self.old.tickets }
+        ensures room { OneMore self.old self.new }
     {
         self.steps.get_mut(place)?.take()
     }

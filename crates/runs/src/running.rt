@@ -1,7 +1,10 @@
 // Lists of calls made on a store.
-ghost use Rattle.std.specs.Prelude.{◌≡◌, ℕ, suc, ◌+◌, ◌≤◌, [], map, length, take, vec_len, vec_capacity};
+ghost use Rattle.std.specs.Prelude.{◌≡◌, ◌+◌, ◌≤◌, [], map, length, take, Some, vec_len, vec_capacity};
+ghost use Rattle.std.specs.VecDeque.{deque_len};
 ghost use Rattle.store.specs.Moments.{moment};
-ghost use Rattle.runs.specs.Hands.{held_by, Spare};
+ghost use Rattle.store.specs.declared.entries.Entry.TheVariants.{Begin as begun, Temperature as took_temperature};
+ghost use Rattle.runs.specs.declared.requests.Request.TheVariants.{Begin, Temperature, Pressure};
+ghost use Rattle.runs.specs.Hands.{held_by, Spare, OneMore};
 ghost use Rattle.runs.specs.Held.{held};
 ghost use Rattle.runs.specs.Runs.{Turn, Made, RunMade, abandoning};
 
@@ -10,26 +13,57 @@ use crate::requests::Request;
 use crate::rooms::Room;
 use flash::interface::Flash;
 use store::entries::Entry;
+use store::refusals::Refusal;
+use store::steps::StepNumbers;
 use store::stores::Store;
 
-// kept: store, hand and log as three parameters: the store is the caller's, the hand is taken apart at the end, and the log is the answer.
+// Opens a change, and holds its ticket.
+fn begin<F: Flash>(store: &mut Store<F>, hand: &mut Hand) -> Result<u32, Refusal>
+    requires { Spare 1 hand.old }
+    ensures turn { Turn (moment F.Flash store.old) (held_by hand.old) Begin (Some (begun result)) (moment F.Flash store.new) (held_by hand.new) }
+    ensures room { OneMore hand.old hand.new }
+{
+    Ok(hand.keep(store.begin()?))
+}
+
+// Takes a temperature, and holds its step.
+fn temperature<F: Flash>(
+    store: &mut Store<F>,
+    hand: &mut Hand,
+    ut: i32,
+) -> Result<StepNumbers, Refusal>
+    requires { Spare 1 hand.old }
+    ensures turn { Turn (moment F.Flash store.old) (held_by hand.old) (Temperature ut) (Some (took_temperature ut result)) (moment F.Flash store.new) (held_by hand.new) }
+    ensures room { OneMore hand.old hand.new }
+{
+    Ok(hand.keep_step(store.temperature(ut)?))
+}
+
+// Takes a pressure with the step at a place, if it is held.
+fn pressure<F: Flash>(store: &mut Store<F>, hand: &mut Hand, place: usize, up: i32) -> Option<Entry>
+    ensures turn { Turn (moment F.Flash store.old) (held_by hand.old) (Pressure place up) result (moment F.Flash store.new) (held_by hand.new) }
+    ensures room { OneMore hand.old hand.new }
+{
+    let taken = hand.take_step(place)?;
+    Some(Entry::Pressure {
+        step: taken.numbers(),
+        up,
+        answer: store.pressure(taken, up),
+    })
+}
+
 // Takes up one request: makes the call that it asks for, if what it names is held.
 fn turn<F: Flash>(store: &mut Store<F>, hand: &mut Hand, request: Request) -> Option<Entry>
     requires { Spare 1 hand.old }
     ensures turn { Turn (moment F.Flash store.old) (held_by hand.old) request result (moment F.Flash store.new) (held_by hand.new) }
-    ensures room { (n : ℕ) → Spare (suc n) hand.old → Spare n hand.new }
-    ensures few { vec_len hand.new.tickets ≤ suc (vec_len hand.old.tickets) }
+    ensures room { OneMore hand.old hand.new }
 {
     let entry = match request {
         Request::Recover => Entry::Recover {
             answer: store.recover(),
         },
         Request::Begin => Entry::Begin {
-            // kept: a match, as in `Temperature`; with `map` and a closure that changes the hand the proof did not close.
-            answer: match store.begin() {
-                Ok(ticket) => Ok(hand.keep(ticket)),
-                Err(why) => Err(why),
-            },
+            answer: begin(store, hand),
         },
         Request::Put { ticket, key, value } => Entry::Put {
             ticket,
@@ -51,25 +85,15 @@ fn turn<F: Flash>(store: &mut Store<F>, hand: &mut Hand, request: Request) -> Op
         },
         Request::Temperature { ut } => Entry::Temperature {
             ut,
-            // kept: a match, as in `Begin`.
-            answer: match store.temperature(ut) {
-                Ok(step) => Ok(hand.keep_step(step)),
-                Err(why) => Err(why),
-            },
+            answer: temperature(store, hand, ut),
         },
-        Request::Pressure { step, up } => {
-            let taken = hand.take_step(step)?;
-            Entry::Pressure {
-                step: taken.numbers(),
-                up,
-                answer: store.pressure(taken, up),
-            }
-        }
+        Request::Pressure { step, up } => pressure(store, hand, step, up)?,
     };
     Some(entry)
 }
 
 // Takes up the requests in their order.
+// kept: store, hand and log as three parameters: the store is the caller's, the hand is taken apart at the end, and the log is the answer.
 fn take_up<F: Flash>(
     store: &mut Store<F>,
     hand: &mut Hand,
@@ -81,7 +105,7 @@ fn take_up<F: Flash>(
     ensures made { Made (moment F.Flash store.old) (held_by hand.old) requests.now log.old.items log.new.items (moment F.Flash store.new) (held_by hand.new) }
     ensures len { vec_len log.new ≡ vec_len log.old + length requests.now }
     ensures room { vec_capacity log.new ≡ vec_capacity log.old }
-    ensures few { vec_len hand.new.tickets ≤ vec_len hand.old.tickets + length requests.now }
+    ensures few { deque_len hand.new.tickets ≤ deque_len hand.old.tickets + length requests.now }
 {
     for request in requests {
         let outcome = turn(store, hand, *request);
@@ -91,14 +115,11 @@ fn take_up<F: Flash>(
 
 // Abandons each ticket that is still held, in the order in which they were given.
 fn abandon_each<F: Flash>(store: &mut Store<F>, hand: &mut Hand, log: &mut Vec<Option<Entry>>)
-    requires log { vec_len log.old + vec_len hand.old.tickets ≤ vec_capacity log.old }
+    requires log { vec_len log.old + deque_len hand.old.tickets ≤ vec_capacity log.old }
     ensures made { Made (moment F.Flash store.old) (held_by hand.old) (map abandoning (held_by hand.old).tickets) log.old.items log.new.items (moment F.Flash store.new) (held [] (held_by hand.old).steps) }
-    ensures none { vec_len hand.new.tickets ≡ 0 }
+    ensures none { deque_len hand.new.tickets ≡ 0 }
 {
-    // kept: no index is counted; no ticket can be let go, so no iterator that might let go of the rest can hold them. A `VecDeque` would give
-    // them from the front, and ask for another search in `take`.
-    while hand.tickets.len() > 0 {
-        let ticket = hand.tickets.remove(0);
+    while let Some(ticket) = hand.tickets.pop_front() {
         let number = ticket.number();
         let answer = store.abandon(ticket);
         log.push_reserved(Some(Entry::Abandon {

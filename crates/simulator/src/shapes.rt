@@ -5,6 +5,7 @@ ghost use Rattle.simulator.specs.Shapes.{make_refusal, shape_number};
 use flash::shapes::shape_fits;
 
 // Why no simulator was made: its shape, or a table of another length.
+// kept: not one enum with the image's `OpenFault`: each check names all of its own reasons, which is no less plain than two enums in one.
 #[derive(Clone, Copy, PartialEq, Eq, Debug)]
 pub enum ShapeFault {
     Shape,
@@ -12,7 +13,7 @@ pub enum ShapeFault {
 }
 
 impl ShapeFault {
-    // kept: a match; as discriminants of the enum a number given twice would not compile, and the edit that gives one twice could show nothing
+    // kept: a match; as discriminants of the enum a number given twice would not compile, and the edit that gives one twice could show nothing.
     pub fn number(&self) -> u8
         ensures { result ≡ shape_number self.now }
     {

@@ -44,14 +44,14 @@ pub looks_cold : {A : Type 0} (m m' : Moment) (f : List Pair → ℕ → Result 
 looks_cold m m' f why d = (cold_answer m.memory f why d.0, d.1, d.2, d.3)
 
 warm_answer : {A : Type 0} (p : Phase) (st : Standing) (ch : Pairs) (f : List Pair → ℕ → Result A Refusal) (n : ℕ) → Ok n ≡ looked (memory_of p st ch) number_of →
-    f (pairs_of st.pairs) n ≡ looked (memory_of p st ch) f
+    f (pairs_of st.pairs) st.number ≡ looked (memory_of p st ch) f
 warm_answer in_cold st ch f n e = let z : ◌≡◌ {A = ℕ} 0 1 = cc in absurd (omega arith)
-warm_answer in_ready st ch f n e = let q : n ≡ st.number = cc in ap (f (pairs_of st.pairs)) q
-warm_answer (in_change t) st ch f n e = let q : n ≡ st.number = cc in ap (f (pairs_of st.pairs)) q
+warm_answer in_ready st ch f n e = refl
+warm_answer (in_change t) st ch f n e = refl
 
 -- another answers from its standing pairs and its number
 pub looks_warm : {A : Type 0} (m m' : Moment) (p : Phase) (st : Standing) (ch : Pairs) → m'.memory ≡ memory_of p st ch → (f : List Pair → ℕ → Result A Refusal) (n : ℕ) →
-    Looks m number_of (Ok n) m' → (answer : Result A Refusal) → answer ≡ f (pairs_of st.pairs) n → Looks m f answer m'
+    Looks m number_of (Ok n) m' → (answer : Result A Refusal) → answer ≡ f (pairs_of st.pairs) st.number → Looks m f answer m'
 looks_warm m m' p st ch here f n d answer e =
     let same : memory_of p st ch ≡ m.memory = sym here ∙ d.1 in
     (e ∙ warm_answer p st ch f n (d.0 ∙ ap (λ (x : Memory). looked x number_of) (sym same)) ∙ ap (λ (x : Memory). looked x f) same, d.1, d.2, d.3)

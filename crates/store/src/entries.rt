@@ -3,6 +3,8 @@ use crate::refusals::Refusal;
 use crate::steps::{Line, StepNumbers};
 
 // One call with its arguments and what it answered; a ticket stands for its number, a step for its numbers.
+// kept: each call with its arguments once more than in `Event` and in the requests of a run: an answer stands here alone, and neither of those
+// knows what a step was.
 #[derive(Clone, Copy, PartialEq, Eq, Debug)]
 pub enum Entry {
     Recover {

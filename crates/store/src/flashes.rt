@@ -40,8 +40,9 @@ pub(crate) fn power_up_and_format<F: Flash>(flash: &mut F) -> Result<(), Refusal
     format_banks(flash).map_err(|fault| Refusal::WriteStopped(fault.place()))
 }
 
-// kept: the closure of the format once more, shorter than a function and its contract.
 // Writes a change with the next number.
+// kept: the closure of the format once more, shorter than a function and its contract.
+// kept: what stands, the change and its number side by side, as `write_change` of `journal` takes them.
 pub(crate) fn write<F: Flash>(
     flash: &mut F,
     standing: &Standing,

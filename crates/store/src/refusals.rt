@@ -46,7 +46,7 @@ pub enum Refusal {
 
 impl Refusal {
     // The number by which the refusal is known.
-    // kept: a match; as discriminants of the enum a number given twice would not compile, and the edit that gives one twice could show nothing
+    // kept: a match; two of the variants hold data, so that the numbers cannot be discriminants of the enum.
     pub fn number(self) -> u8
         ensures { result ≡ refusal_number self }
     {
@@ -72,6 +72,8 @@ impl Refusal {
 }
 
 // 12, 15 and 16 by what the arithmetic refused.
+// kept: three variants of `Refusal` again, and not one that holds a `ReadingRefusal`: the sixteen are one list in the order in which they
+// are judged, and a caller tells each by one match.
 impl From<ReadingRefusal> for Refusal {
     ghost from_gives = { λ e r. r ≡ refusal_of e };
 

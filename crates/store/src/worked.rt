@@ -1,4 +1,4 @@
-// Readings from a list of pairs and the number under which it stands.
+// Readings from what stands: its pairs and its number.
 ghost use Rattle.std.specs.Prelude.{◌≡◌};
 ghost use Rattle.layout.specs.Held.{pairs_of};
 ghost use Rattle.store.specs.Readings.{temperature_answer, pressure_answer};
@@ -6,28 +6,28 @@ ghost use Rattle.store.specs.Readings.{temperature_answer, pressure_answer};
 use crate::refusals::Refusal;
 use crate::steps::{Line, StepNumbers};
 use compensation::readings::checked_ut;
-use layout::pairs::Pairs;
+use journal::standing::Standing;
 use readings::gathered::gathered;
 
 // The step of the temperature from UT. UT is judged before an absent key.
-pub(crate) fn step_numbers(pairs: &Pairs, number: u32, ut: i32) -> Result<StepNumbers, Refusal>
-    ensures { result ≡ temperature_answer (pairs_of pairs.now) number ut }
+pub(crate) fn step_numbers(standing: &Standing, ut: i32) -> Result<StepNumbers, Refusal>
+    ensures { result ≡ temperature_answer (pairs_of standing.now.pairs) standing.now.number ut }
 {
     let raw = checked_ut(ut)?;
-    let worked = gathered(pairs)?.temperature_at(raw)?;
+    let worked = gathered(&standing.pairs)?.temperature_at(raw)?;
     Ok(StepNumbers {
         b5: worked.b5,
         t: worked.t,
-        number,
+        number: standing.number,
     })
 }
 
 // The line of a step and UP. An absent key is judged before the step's number, and that before UP.
-pub(crate) fn line(pairs: &Pairs, number: u32, step: StepNumbers, up: i32) -> Result<Line, Refusal>
-    ensures { result ≡ pressure_answer (pairs_of pairs.now) number step up }
+pub(crate) fn line(standing: &Standing, step: StepNumbers, up: i32) -> Result<Line, Refusal>
+    ensures { result ≡ pressure_answer (pairs_of standing.now.pairs) standing.now.number step up }
 {
-    let calibration = gathered(pairs)?;
-    if step.number != number {
+    let calibration = gathered(&standing.pairs)?;
+    if step.number != standing.number {
         return Err(Refusal::OldStep);
     }
     let worked = calibration.pressure(step.b5, up)?;

@@ -67,6 +67,7 @@ impl Flash for Image {
         Ok(())
     }
 
+    // kept: as in `read`; here no unit is asked for, and the fault has none.
     fn erase(&mut self, bank: usize) -> Result<(), ImageFault>
         ensures erases { Erase ⟦<ImageFault as FlashFault>⟧ (image_flash (image_bytes self.old)) bank (image_flash (image_bytes self.new)) result }
         ensures buffer { image_bytes self.new ≡ image_after_erase (image_bytes self.old) bank }

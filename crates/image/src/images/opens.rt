@@ -7,6 +7,7 @@ use crate::image_checks::{OpenFault, check_image};
 use crate::images::Image;
 
 // A buffer that holds no image, and why.
+// kept: not one type with the simulator's `NotMade`: two fields whose names say what was refused and handed back.
 #[derive(Drop)]
 pub struct NotOpened {
     pub fault: OpenFault,
@@ -19,6 +20,7 @@ impl Image {
         ensures refusal { MatchResult result (λ _. open_refusal bytes.items ≡ 0) (λ e. open_number e.fault ≡ open_refusal bytes.items) }
         ensures held { MatchResult result (λ m. image_bytes m ≡ bytes.items) (λ e. e.bytes ≡ bytes) }
     {
+        // kept: a match: the buffer moves into the image or into the error, so closures for both would each take it.
         match check_image(&bytes) {
             Ok(()) => Ok(Image { bytes }),
             Err(fault) => Err(NotOpened { fault, bytes }),

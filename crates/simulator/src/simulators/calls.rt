@@ -37,25 +37,6 @@ impl Simulator {
         start..start + self.width
     }
 
-    // kept: two methods over `units_of`, since each says what it makes of the whole state.
-    // Makes all units of a bank blank.
-    fn blank_bank(&mut self, bank: usize)
-        requires { bank < self.old.banks }
-        ensures { state_of self.new ≡ with_bank_blank (state_of self.old) bank }
-    {
-        let units = self.units_of(bank);
-        self.table[units].fill(Unit::Blank);
-    }
-
-    // Leaves the units of a bank as a cut erase does.
-    fn cut_bank(&mut self, bank: usize)
-        requires { bank < self.old.banks }
-        ensures { state_of self.new ≡ with_bank_cut (state_of self.old) bank }
-    {
-        let units = self.units_of(bank);
-        cut_erase(&mut self.table[units], self.entry.pattern);
-    }
-
     // A completed write costs one.
     fn pay(&mut self)
         requires { 0 < self.old.entry.charge }
@@ -122,6 +103,7 @@ impl Flash for Simulator {
         Ok(())
     }
 
+    // kept: as in `read`; here no unit is asked for, and the fault has none.
     fn erase(&mut self, bank: usize) -> Result<(), SimulatorFault>
         ensures erases { Erase ⟦<SimulatorFault as FlashFault>⟧ (flash_of (state_of self.old)) bank (flash_of (state_of self.new)) result }
         ensures state { state_of self.new ≡ after_erase (state_of self.old) bank }
@@ -132,12 +114,13 @@ impl Flash for Simulator {
         if bank >= self.banks {
             return Err(SimulatorFault::new(Why::Missing, bank, None));
         }
+        let units = self.units_of(bank);
         if self.entry.charge == 0 {
-            self.cut_bank(bank);
+            cut_erase(&mut self.table[units], self.entry.pattern);
             self.turn_off();
             return Err(SimulatorFault::new(Why::Cut, bank, None));
         }
-        self.blank_bank(bank);
+        self.table[units].fill(Unit::Blank);
         self.pay();
         Ok(())
     }

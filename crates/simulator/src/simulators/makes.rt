@@ -22,7 +22,7 @@ impl Simulator {
         ensures refusal { MatchResult result (λ _. make_refusal banks width (vec_len table) ≡ 0) (λ e. shape_number e.fault ≡ make_refusal banks width (vec_len table)) }
         ensures made { MatchResult result (λ s. state_of s ≡ new_simulator banks width) (λ e. e.table ≡ table) }
     {
-        // kept: the table moves into the error, so `?` after a closure would take it from what follows.
+        // kept: an `if let`: the table moves into the error, and a closure for `map_err` would take it from what follows.
         if let Err(fault) = check_shape(banks, width, table.len()) {
             return Err(NotMade { fault, table });
         }

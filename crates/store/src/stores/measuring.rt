@@ -17,8 +17,8 @@ impl<F: Flash> Store<F> {
         ensures does { Does (moment F.Flash self.old) (Temperature ut (step_numbers result)) (moment F.Flash self.new) }
         ensures ledger { FollowsLedger (moment F.Flash self.old) (Temperature ut (step_numbers result)) (moment F.Flash self.new) }
     {
-        let number = self.judge(Event::Look)?;
-        let numbers = step_numbers(&self.standing.pairs, number, ut)?;
+        self.judge(Event::Look)?;
+        let numbers = step_numbers(&self.standing, ut)?;
         Ok(Step { numbers })
     }
 
@@ -27,7 +27,7 @@ impl<F: Flash> Store<F> {
         ensures does { Does (moment F.Flash self.old) (Pressure step.numbers up result) (moment F.Flash self.new) }
         ensures ledger { FollowsLedger (moment F.Flash self.old) (Pressure step.numbers up result) (moment F.Flash self.new) }
     {
-        let number = self.judge(Event::Look)?;
-        line(&self.standing.pairs, number, step.numbers, up)
+        self.judge(Event::Look)?;
+        line(&self.standing, step.numbers, up)
     }
 }

@@ -5,5 +5,5 @@ use Rattle.figures.specs.Figures.{example_pairs}
 use Rattle.figures.proofs.example.example_pairs.Given as goal
 
 -- the pairs of the turns before
-abbrev pub invariant-loop-pair : goal.invariant-loop-pair
-invariant-loop-pair l = pairs_of l.pairs ≡ merged [] (take l.pair-index example_pairs)
+abbrev pub invariant-loop-key : goal.invariant-loop-key
+invariant-loop-key l = pairs_of l.pairs ≡ merged [] (take l.key-index example_pairs)

@@ -1,4 +1,4 @@
-use Rattle.std.proofs.Common.{◌≡◌, ℕ, [], ◌∷◌, ◌++◌, Err, Result, sym, ap, ◌∙◌, subst, rules, arith}
+use Rattle.std.proofs.Common.{◌≡◌, ℕ, ◌+◌, [], ◌∷◌, ◌++◌, Err, Result, sym, ap, ◌∙◌, subst, rules, arith}
 use Rattle.std.proofs.lemmas.List.{append_assoc, length-append}
 use Rattle.flash.specs.Seen.{seen}
 use Rattle.layout.specs.Held.{pairs_of, pairs_left}
@@ -7,51 +7,51 @@ use Rattle.journal.specs.Writes.{Performed}
 use Rattle.journal.proofs.Performing.{Onward, onward_none, record_done, record_stopped, records_end}
 use Rattle.journal.proofs.writers.program_records.Goals as goal
 
-pub loop-pair-init : goal.loop-pair-init
-loop-pair-init g c =
-    let ps = pairs_of c.args.pairs.now in
-    let ws = records c.args.bank c.args.from ps in
+pub loop-i-init : goal.loop-i-init
+loop-i-init g c =
+    let ws = records c.args.bank c.args.from (pairs_of c.args.pairs.now) in
     let s = seen g.F.Flash c.args.flash.now in
+    let begins : c.args.from + 0 ≡ c.args.from = omega arith in
     record {
       next = search rules;
-      rest = c.into_iter-pair-iterator.ensures.into_iter_gives;
-      onward = subst (λ l. Onward g.F.Fault.FlashFault ℕ ws s (records c.args.bank c.args.from l) s) (sym c.into_iter-pair-iterator.ensures.into_iter_gives) (onward_none g.F.Fault.FlashFault ℕ ws s);
+      fits = search rules;
+      rest = c.iter-pair-items.ensures;
+      onward = subst (λ l. Onward g.F.Fault.FlashFault ℕ ws s l s) (λ i. records c.args.bank (sym begins i) (sym c.iter-pair-items.ensures i)) (onward_none g.F.Fault.FlashFault ℕ ws s);
     }
 
-pub returns-in_err-program : goal.returns-in_err-program
-returns-in_err-program g c =
+pub returns-in_err-program-clause-writes : goal.returns-in_err-program-clause-writes
+returns-in_err-program-clause-writes g c =
     let t = g.F.Fault.FlashFault in
     let ws = records c.args.bank c.args.from (pairs_of c.args.pairs.now) in
     let s = seen g.F.Flash c.args.flash.now in
     let s' = seen g.F.Flash c.program.new.self in
     let e = c.in_err-program.field-0.0 in
     let is : c.from_residual.result ≡ Err e = search rules in
-    record {
-      writes =
-          subst (λ (r : Result ℕ g.row.F-Fault.Denot). Performed t ws s s' r) (sym is)
-          (record_stopped t ℕ ws s c.args.bank c.loop-pair.at _ c.in-Some.pair _ (seen g.F.Flash c.loop-pair.flash) s' c.in-Some.ensures.steps c.encode_record.result
-          c.encode_record.ensures.value c.loop-pair.invariant.onward e c.in_err-program.ensures.programs);
-      next = search rules;
-    }
+    subst (λ (r : Result ℕ g.row.F-Fault.Denot). Performed t ws s s' r) (sym is)
+    (record_stopped t ℕ ws s c.args.bank (c.args.from + c.loop-i.i) _ c.in-Some.pair _ (seen g.F.Flash c.loop-i.flash) s' c.in-Some.ensures.steps c.encode_record.result
+    c.encode_record.ensures.value c.loop-i.invariant.onward e c.in_err-program.ensures.programs)
 
-pub loop-pair-preserved : goal.loop-pair-preserved
-loop-pair-preserved g c =
+pub loop-i-preserved : goal.loop-i-preserved
+loop-i-preserved g c =
     let t = g.F.Fault.FlashFault in
-    let ps = pairs_of c.args.pairs.now in
-    let ws = records c.args.bank c.args.from ps in
+    let ws = records c.args.bank c.args.from (pairs_of c.args.pairs.now) in
     let s = seen g.F.Flash c.args.flash.now in
-    let given = c.loop-pair.yielded in
+    let given = c.loop-i.yielded in
     let p = c.in-Some.pair in
     let left = pairs_left c.next.new.self in
+    let at = c.args.from + c.loop-i.i in
+    let further : at + 1 ≡ c.args.from + (c.loop-i.i + 1) = omega arith in
     record {
-      next = omega (arith, c.loop-pair.invariant.next, length-append given (p ∷ []));
-      rest = append_assoc given (p ∷ []) left ∙ ap (λ l. given ++ l) (sym c.in-Some.ensures.steps) ∙ c.loop-pair.invariant.rest;
+      next = omega (arith, c.loop-i.invariant.next, length-append given (p ∷ []));
+      fits = search rules;
+      rest = append_assoc given (p ∷ []) left ∙ ap (λ l. given ++ l) (sym c.in-Some.ensures.steps) ∙ c.loop-i.invariant.rest;
       onward =
-          record_done t ℕ ws s c.args.bank c.loop-pair.at _ p left (seen g.F.Flash c.loop-pair.flash) (seen g.F.Flash c.program.new.self) c.in-Some.ensures.steps
-          c.encode_record.result c.encode_record.ensures.value c.loop-pair.invariant.onward c.in_ok-program.ensures.programs;
+          subst (λ u. Onward t ℕ ws s (records c.args.bank u left) (seen g.F.Flash c.program.new.self)) further
+          (record_done t ℕ ws s c.args.bank at _ p left (seen g.F.Flash c.loop-i.flash) (seen g.F.Flash c.program.new.self) c.in-Some.ensures.steps
+          c.encode_record.result c.encode_record.ensures.value c.loop-i.invariant.onward c.in_ok-program.ensures.programs);
     }
 
 pub returns-clause-writes : goal.returns-clause-writes
 returns-clause-writes g c =
-    records_end g.F.Fault.FlashFault ℕ (records c.args.bank c.args.from (pairs_of c.args.pairs.now)) (seen g.F.Flash c.args.flash.now) c.args.bank c.loop-pair.at _
-    (seen g.F.Flash c.loop-pair.flash) c.loop-pair.at c.in-None.ensures.steps.0 c.loop-pair.invariant.onward
+    records_end g.F.Fault.FlashFault ℕ (records c.args.bank c.args.from (pairs_of c.args.pairs.now)) (seen g.F.Flash c.args.flash.now) c.args.bank (c.args.from + c.loop-i.i) _
+    (seen g.F.Flash c.loop-i.flash) (c.args.from + c.len.result) c.in-None.ensures.steps.0 c.loop-i.invariant.onward

@@ -1,4 +1,4 @@
-use Rattle.std.proofs.Common.{◌≡◌, ℕ, ◌+◌, ◌++◌, length}
+use Rattle.std.proofs.Common.{◌≡◌, ℕ, ◌+◌, ◌<◌, ◌++◌, ◌^◌, length}
 use Rattle.flash.specs.Seen.{seen}
 use Rattle.layout.specs.Held.{pairs_of, pairs_left}
 use Rattle.journal.specs.Commit.{records}
@@ -6,9 +6,10 @@ use Rattle.journal.proofs.Performing.{Onward}
 use Rattle.journal.proofs.writers.program_records.Given as goal
 
 -- the records of the pairs given so far are programmed, and those of the pairs left remain
-abbrev pub invariant-loop-pair : goal.invariant-loop-pair
-invariant-loop-pair g l = record {
-  next : l.at ≡ l.initial.at + length l.yielded;
+abbrev pub invariant-loop-i : goal.invariant-loop-i
+invariant-loop-i g l = record {
+  next : l.i ≡ length l.yielded;
+  fits : l.from + l.i < 2 ^ 64;
   rest : l.yielded ++ pairs_left l.pair-iterator ≡ pairs_of l.pairs;
-  onward : Onward g.F.Fault.FlashFault ℕ (records l.bank l.initial.at (pairs_of l.pairs)) (seen g.F.Flash l.initial.flash) (records l.bank l.at (pairs_left l.pair-iterator)) (seen g.F.Flash l.flash);
+  onward : Onward g.F.Fault.FlashFault ℕ (records l.bank l.from (pairs_of l.pairs)) (seen g.F.Flash l.initial.flash) (records l.bank (l.from + l.i) (pairs_left l.pair-iterator)) (seen g.F.Flash l.flash);
 }

@@ -1,4 +1,4 @@
-use Rattle.std.proofs.Common.{◌≡◌, List, take, vec_items, subst}
+use Rattle.std.proofs.Common.{◌≡◌, List, take, vec_items, deque_items, subst}
 use Rattle.store.specs.Moments.{moment}
 use Rattle.runs.specs.declared.requests.Request.{Request}
 use Rattle.runs.specs.Held.{Held, held, nothing_held, ticket_numbers, step_numbers}
@@ -15,7 +15,7 @@ returns g c =
     let qs = c.args.requests.now in
     let room = c.args.room in
     let i = held_by c.take_up.new.hand in
-    let none : held (ticket_numbers (vec_items room.hand.tickets)) (step_numbers (vec_items room.hand.steps)) ≡ nothing_held =
+    let none : held (ticket_numbers (deque_items room.hand.tickets)) (step_numbers (vec_items room.hand.steps)) ≡ nothing_held =
     λ k. held (ticket_numbers (room.no_tickets k)) (step_numbers (room.no_steps k)) in
     let made : Made m nothing_held (take c.min-count.result qs) (vec_items room.log) (vec_items c.take_up.new.log) n i =
     subst (λ (h : Held). Made m h (take c.min-count.result qs) (vec_items room.log) (vec_items c.take_up.new.log) n i) none c.take_up.ensures.made in

@@ -1,10 +1,8 @@
-use Rattle.std.proofs.Common.{◌≡◌, ℕ, suc, ◌+◌, ◌-◌, List, length, get_or, take, vec_items, ◌∙◌, subst, arith}
-use Rattle.std.proofs.lemmas.List.{take_more, take_all}
+use Rattle.std.proofs.Common.{◌≡◌, ℕ, suc, ◌+◌, ◌-◌, length, get_or, take, vec_items, ◌∙◌, subst, arith}
+use Rattle.std.proofs.lemmas.List.{take_more}
 use Rattle.store.specs.Moments.{moment}
-use Rattle.runs.specs.declared.requests.Request.{Request}
 use Rattle.runs.specs.declared.requests.Request.TheVariants.{Recover}
 use Rattle.runs.specs.Hands.{held_by, Spare}
-use Rattle.runs.specs.Runs.{Made}
 use Rattle.runs.proofs.Links.{made_more}
 use Rattle.runs.proofs.running.take_up.Goals as goal
 
@@ -14,27 +12,11 @@ loop-request-preserved g c =
     let i = c.loop-request.request-index in
     let inv = c.loop-request.invariant in
     let left : length qs - i ≡ suc (length qs - (i + 1)) = omega (arith, c.loop-request-test.true) in
-    let room = c.turn-outcome.ensures.room (length qs - (i + 1)) (subst (λ (n : ℕ). Spare n c.loop-request.hand) left inv.1) in (
+    let room = c.turn-outcome.ensures.room.0 (length qs - (i + 1)) (subst (λ (n : ℕ). Spare n c.loop-request.hand) left inv.1) in (
       made_more (get_or qs i Recover) c.turn-outcome.result (moment g.F.Flash c.turn-outcome.new.store) (held_by c.turn-outcome.new.hand) (take (i + 1) qs)
           (vec_items c.push_reserved.new.self) inv.0 c.turn-outcome.ensures.turn (take_more qs i Recover c.loop-request-test.true) c.push_reserved.ensures.items,
       room,
       omega (arith, c.push_reserved.ensures.len, inv.2),
       c.push_reserved.ensures.capacity ∙ inv.3,
-      omega (arith, c.turn-outcome.ensures.few, inv.4),
+      omega (arith, c.turn-outcome.ensures.room.1, inv.4),
     )
-
-pub returns : goal.returns
-returns g c =
-    let qs = c.args.requests.now in
-    let i = c.loop-request.request-index in
-    let inv = c.loop-request.invariant in
-    let end : i ≡ length qs = omega (arith, c.loop-request-test.false, c.loop-request.auto.request-index-end) in
-    let m = moment g.F.Flash c.args.store.now in
-    let m' = moment g.F.Flash c.loop-request.store in
-    record {
-      made = subst (λ (x : List Request). Made m (held_by c.args.hand.now) x (vec_items c.args.log.now) (vec_items c.loop-request.log) m' (held_by c.loop-request.hand))
-          (take_all i qs (omega (arith, end))) inv.0;
-      len = omega (arith, inv.2, end);
-      room = inv.3;
-      few = omega (arith, inv.4, end);
-    }

@@ -1,4 +1,4 @@
-use Rattle.std.proofs.Common.{◌≡◌, ◌+◌, ◌-◌, ◌≤◌, length, take, vec_items, vec_len, vec_capacity}
+use Rattle.std.proofs.Common.{◌≡◌, ◌+◌, ◌-◌, ◌≤◌, length, take, vec_items, vec_len, vec_capacity, deque_len}
 use Rattle.store.specs.Moments.{moment}
 use Rattle.runs.specs.Hands.{held_by, Spare}
 use Rattle.runs.specs.Runs.{Made}
@@ -12,4 +12,4 @@ invariant-loop-request g l =
     × Spare (length l.requests - l.request-index) l.hand
     × (vec_len l.log ≡ vec_len l.initial.log + l.request-index)
     × (vec_capacity l.log ≡ vec_capacity l.initial.log)
-    × (vec_len l.hand.tickets ≤ vec_len l.initial.hand.tickets + l.request-index)
+    × (deque_len l.hand.tickets ≤ deque_len l.initial.hand.tickets + l.request-index)

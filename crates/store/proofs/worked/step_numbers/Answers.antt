@@ -11,5 +11,5 @@ returns c =
     let fu : SFits w32 c.args.ut = search rules in
     let u = simp to_z-of_z at c.in_ok-raw.ensures in
     simp to_z-of_z
-    (step_is (pairs_of c.args.pairs.now) c.args.number c.args.ut c.in_ok-raw.raw c.in_ok-gathered.field-0.values (Ok c.in_ok-worked.worked)
+    (step_is (pairs_of c.args.standing.now.pairs) c.args.standing.now.number c.args.ut c.in_ok-raw.raw c.in_ok-gathered.field-0.values (Ok c.in_ok-worked.worked)
     u c.in_ok-gathered.ensures.0 c.in_ok-gathered.ensures.1 c.in_ok-worked.ensures)

@@ -1,16 +1,12 @@
-use Rattle.std.proofs.Common.{◌≡◌, List, Some, None, vec_items, sym, subst, rules}
-use Rattle.store.specs.declared.tickets.Ticket.{Ticket}
-use Rattle.runs.specs.Held.{Found, Seen, ticket_numbers}
-use Rattle.runs.proofs.Tickets.{has_none, has_at, read_number}
+use Rattle.std.proofs.Common.{deque_items, rules, tests}
+use Rattle.std.proofs.lemmas.Iterator.{first_from_find}
+use Rattle.std.proofs.lemmas.Iterator.Consumers.{YieldsList-from_deque}
+use Rattle.runs.proofs.Tickets.{Is, IsNot, seen}
 use Rattle.runs.proofs.hands.Hand.look.Goals as goal
-
-pub returns-in_err-i : goal.returns-in_err-i
-returns-in_err-i c =
-    let n : c.from_residual.result ≡ None = search rules in
-    subst (Seen (ticket_numbers (vec_items c.args.self.now.tickets)) c.args.number) (sym n)
-    (has_none _ _ (subst (λ (ts : List Ticket). Found ts c.args.number None) c.deref.ensures.value c.in_err-i.ensures))
 
 pub returns : goal.returns
 returns c =
-    let f = subst (λ (ts : List Ticket). Found ts c.args.number (Some c.in_ok-i.i)) c.deref.ensures.value c.in_ok-i.ensures in
-    (has_at _ _ _ f.0 f.1, read_number _ (vec_items c.args.self.now.tickets) c.in_ok-i.i _ f c.index.ensures)
+    let ts = deque_items c.args.self.now.tickets in
+    let j = c.args.number in
+    seen j ts c.find.result
+    (first_from_find c.find.new.self _ c.find.result (Is j) (IsNot j) c.find.ensures.ran (YieldsList-from_deque ts cc) (λ x q k. search (rules, tests)) (λ x q k. search (rules, tests)))

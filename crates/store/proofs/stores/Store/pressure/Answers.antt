@@ -13,17 +13,17 @@ use Rattle.store.proofs.Law.{follows_ledger}
 use Rattle.store.proofs.Looking.{looks_cold, looks_warm}
 use Rattle.store.proofs.stores.Store.pressure.Goals as goal
 
-pub returns-in_err-number : goal.returns-in_err-number
-returns-in_err-number g c =
+pub returns-in_err-judge : goal.returns-in_err-judge
+returns-in_err-judge g c =
     let m = moment g.F.Flash c.args.self.now in
     let m' = moment g.F.Flash c.judge.new.self in
     let st = c.args.step.numbers in
     let up = c.args.up in
     let f : List Pair → ℕ → Result Line Refusal = λ ps number. pressure_answer ps number st up in
-    let why = c.in_err-number.field-0.0 in
+    let why = c.in_err-judge.field-0.0 in
     let is : c.from_residual.result ≡ Err why = search rules in
     let e : Entry = Pressure st up c.from_residual.result in
-    let d : Does m e m' = subst (λ (r : Result Line Refusal). Does m (Pressure st up r) m') (sym is) (looks_cold m m' f why c.in_err-number.ensures) in
+    let d : Does m e m' = subst (λ (r : Result Line Refusal). Does m (Pressure st up r) m') (sym is) (looks_cold m m' f why c.in_err-judge.ensures) in
     record { does = d; ledger = follows_ledger m e m' d }
 
 pub returns : goal.returns
@@ -37,7 +37,7 @@ returns g c =
     let fb : SFits w16 st.b5 = search rules in
     let ft : SFits w16 st.t = search rules in
     let fu : SFits w32 up = search rules in
-    let q : c.line.result ≡ pressure_answer (pairs_of s.standing.pairs) c.in_ok-number.number st up = simp to_z-of_z at c.line.ensures in
+    let q : c.line.result ≡ pressure_answer (pairs_of s.standing.pairs) s.standing.number st up = simp to_z-of_z at c.line.ensures in
     let e : Entry = Pressure st up c.line.result in
-    let d : Does m e m' = looks_warm m m' s.phase s.standing s.change refl f c.in_ok-number.number c.in_ok-number.ensures c.line.result q in
+    let d : Does m e m' = looks_warm m m' s.phase s.standing s.change refl f _ c.in_ok-judge.ensures c.line.result q in
     record { does = d; ledger = follows_ledger m e m' d }

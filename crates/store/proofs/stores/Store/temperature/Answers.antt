@@ -14,16 +14,16 @@ use Rattle.store.proofs.Law.{follows_ledger}
 use Rattle.store.proofs.Looking.{looks_cold, looks_warm}
 use Rattle.store.proofs.stores.Store.temperature.Goals as goal
 
-pub returns-in_err-number : goal.returns-in_err-number
-returns-in_err-number g c =
+pub returns-in_err-judge : goal.returns-in_err-judge
+returns-in_err-judge g c =
     let m = moment g.F.Flash c.args.self.now in
     let m' = moment g.F.Flash c.judge.new.self in
     let f : List Pair → ℕ → Result StepNumbers Refusal = λ ps number. temperature_answer ps number c.args.ut in
-    let why = c.in_err-number.field-0.0 in
+    let why = c.in_err-judge.field-0.0 in
     let is : c.from_residual.result ≡ Err why = search rules in
     let same : step_numbers c.from_residual.result ≡ Err why = ap step_numbers is in
     let e : Entry = Temperature c.args.ut (step_numbers c.from_residual.result) in
-    let d : Does m e m' = subst (λ (r : Result StepNumbers Refusal). Does m (Temperature c.args.ut r) m') (sym same) (looks_cold m m' f why c.in_err-number.ensures) in
+    let d : Does m e m' = subst (λ (r : Result StepNumbers Refusal). Does m (Temperature c.args.ut r) m') (sym same) (looks_cold m m' f why c.in_err-judge.ensures) in
     record { does = d; ledger = follows_ledger m e m' d }
 
 pub returns-in_err-numbers : goal.returns-in_err-numbers
@@ -38,11 +38,11 @@ returns-in_err-numbers g c =
     let is : c.from_residual-in_err-numbers.result ≡ Err why = search rules in
     let same : step_numbers c.from_residual-in_err-numbers.result ≡ Err why = ap step_numbers is in
     let r : Result StepNumbers Refusal = Err why in
-    let q : r ≡ temperature_answer (pairs_of s.standing.pairs) c.in_ok-number.number ut = simp to_z-of_z at c.in_err-numbers.ensures in
+    let q : r ≡ temperature_answer (pairs_of s.standing.pairs) s.standing.number ut = simp to_z-of_z at c.in_err-numbers.ensures in
     let e : Entry = Temperature ut (step_numbers c.from_residual-in_err-numbers.result) in
     let d : Does m e m' =
     subst (λ (x : Result StepNumbers Refusal). Does m (Temperature ut x) m') (sym same)
-    (looks_warm m m' s.phase s.standing s.change refl f c.in_ok-number.number c.in_ok-number.ensures r q) in
+    (looks_warm m m' s.phase s.standing s.change refl f _ c.in_ok-judge.ensures r q) in
     record { does = d; ledger = follows_ledger m e m' d }
 
 pub returns : goal.returns
@@ -54,7 +54,7 @@ returns g c =
     let f : List Pair → ℕ → Result StepNumbers Refusal = λ ps number. temperature_answer ps number ut in
     let fu : SFits w32 ut = search rules in
     let r : Result StepNumbers Refusal = Ok c.in_ok-numbers.numbers in
-    let q : r ≡ temperature_answer (pairs_of s.standing.pairs) c.in_ok-number.number ut = simp to_z-of_z at c.in_ok-numbers.ensures in
+    let q : r ≡ temperature_answer (pairs_of s.standing.pairs) s.standing.number ut = simp to_z-of_z at c.in_ok-numbers.ensures in
     let e : Entry = Temperature ut r in
-    let d : Does m e m' = looks_warm m m' s.phase s.standing s.change refl f c.in_ok-number.number c.in_ok-number.ensures r q in
+    let d : Does m e m' = looks_warm m m' s.phase s.standing s.change refl f _ c.in_ok-judge.ensures r q in
     record { does = d; ledger = follows_ledger m e m' d }

@@ -4,10 +4,22 @@ use Rattle.flash.specs.declared.units.Unit.TheVariants.{Blank}
 use Rattle.flash.specs.Causes.{cause_number, cause_place}
 use Rattle.flash.proofs.Keeping.{erase_absent, erase_cut, erase_done}
 use Rattle.simulator.specs.Formed.{full_of, items, rows_length}
-use Rattle.simulator.specs.SimulatorStates.{state_of, flash_of, paid, turned_off, with_bank_blank, with_bank_cut}
+use Rattle.simulator.specs.SimulatorStates.{state_of, flash_of, paid, turned_off, with_bank_blank, with_bank_cut, with_table}
 use Rattle.simulator.specs.Residues.{bank_residue}
-use Rattle.simulator.proofs.Simulating.{table_bank, table_residue, row_residue_length, in_bank, simulated, erase_state_same, erase_state_cut, erase_state_done}
+use Rattle.simulator.proofs.Simulating.{bank_blank, bank_cut, table_bank, table_residue, row_residue_length, in_bank, simulated, erase_state_same, erase_state_cut, erase_state_done}
 use Rattle.simulator.proofs.simulators.calls.SimulatorFlash.erase.Goals as goal
+
+pub invariant_of-self-clause-values : goal.invariant_of-self-clause-values
+invariant_of-self-clause-values c =
+    let u = c.units_of-units in
+    let r = bank_cut c.args.self.now c.args.bank u.result.start u.result.end c.deref_mut.result.now c.cut_erase.new.bank (omega (arith, c.if-bank-self.false)) c.deref_mut.ensures.value u.ensures.start u.ensures.end c.cut_erase.ensures in
+    r.values
+
+pub invariant_of-self-2-clause-values : goal.invariant_of-self-2-clause-values
+invariant_of-self-2-clause-values c =
+    let u = c.units_of-units in
+    let r = bank_blank c.args.self.now c.args.bank u.result.start u.result.end c.deref_mut-2.result.now c.fill.new.self (omega (arith, c.if-bank-self.false)) c.deref_mut-2.ensures.value u.ensures.start u.ensures.end (c.fill.ensures.after (λ y e. e)) in
+    r.values
 
 pub returns-then-bank-self : goal.returns-then-bank-self
 returns-then-bank-self c =
@@ -25,7 +37,9 @@ returns-then-self-eq0 c =
     let there = in_bank s.banks s.width (items s) s.on s.entry.charge (full_of s) b c.if-bank-self.false in
     let left = bank_residue s.entry.pattern (take s.width (drop (b * s.width) (items s))) in
     let size = row_residue_length s.banks s.width (items s) false s.entry.charge (full_of s) b c.if-bank-self.false s.entry.pattern in
-    let after : state_of c.turn_off.new.self ≡ turned_off (with_bank_cut (state_of s) b) = c.turn_off.ensures ∙ ap turned_off c.cut_bank.ensures in
+    let u = c.units_of-units in
+    let bank = bank_cut s b u.result.start u.result.end c.deref_mut.result.now c.cut_erase.new.bank (omega (arith, c.if-bank-self.false)) c.deref_mut.ensures.value u.ensures.start u.ensures.end c.cut_erase.ensures in
+    let after : state_of c.turn_off.new.self ≡ turned_off (with_bank_cut (state_of s) b) = c.turn_off.ensures ∙ ap (λ xs. turned_off (with_table (state_of s) xs)) bank.table in
     let cause = c.new-then-self-eq0.ensures in
     let cut = erase_cut (simulated s) b c.if-not-self.false there _ c.new-then-self-eq0.result _ c.if-self-eq0.true (ap cause_number cause) (ap cause_place cause)
     left (table_residue s.banks s.width (items s) s.on s.entry.charge (full_of s) b c.if-bank-self.false s.entry.pattern)
@@ -38,7 +52,9 @@ returns c =
     let b = c.args.bank in
     let there = in_bank s.banks s.width (items s) s.on s.entry.charge (full_of s) b c.if-bank-self.false in
     let left = replicate s.width Blank in
-    let after : state_of c.pay.new.self ≡ paid (with_bank_blank (state_of s) b) = c.pay.ensures ∙ ap paid c.blank_bank.ensures in
+    let u = c.units_of-units in
+    let bank = bank_blank s b u.result.start u.result.end c.deref_mut-2.result.now c.fill.new.self (omega (arith, c.if-bank-self.false)) c.deref_mut-2.ensures.value u.ensures.start u.ensures.end (c.fill.ensures.after (λ y e. e)) in
+    let after : state_of c.pay.new.self ≡ paid (with_bank_blank (state_of s) b) = c.pay.ensures ∙ ap (λ xs. paid (with_table (state_of s) xs)) bank.table in
     let paid_for : 0 < s.entry.charge = omega (arith, c.if-self-eq0.false) in
     let done = erase_done (simulated s) b c.if-not-self.false there _ paid_for
     (ap flash_of after ∙ table_bank s.banks s.width (items s) s.on (s.entry.charge - 1) (full_of s) b c.if-bank-self.false left (length-replicate s.width Blank)) in
