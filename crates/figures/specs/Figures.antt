@@ -7,6 +7,8 @@ use Rattle.compensation.specs.Figures.{example, CompensationFigures}
 use Rattle.readings.specs.Gathered.{lowest_absent, coefficients_of}
 use Rattle.store.specs.declared.refusals.Refusal.TheVariants.{NotAdmitted}
 use Rattle.store.specs.Refusals.{refusal_number}
+use Rattle.store.specs.Readings.{refusal_of}
+use Rattle.compensation.specs.declared.readings.ReadingRefusal.TheVariants.{Temperature}
 use Rattle.store.specs.Changes.{put_answer}
 use Rattle.mirror.specs.Mirrored.{mixed}
 
@@ -33,6 +35,8 @@ pub record WorkedFigures : Type 0 where
   pub ac4_refused : (change : List Pair) → put_answer change (pair_of 4 (pos 65535)) ≡ Err NotAdmitted
   pub mb_refused : (change : List Pair) → put_answer change (pair_of 9 (negsuc 0)) ≡ Err NotAdmitted
   pub refused_with_8 : refusal_number NotAdmitted ≡ 8
+  -- a B5 beside the limits is refused for its temperature, and that refusal is 15
+  pub refused_with_15 : refusal_number (refusal_of Temperature) ≡ 15
   -- a mirror's unit that is blank on the first side and has a value on the second is unreadable; the other way round it has the value
   pub mirrored : (v : ℕ) → mixed Blank (Programmed v) ≡ Unreadable
   pub mirrored_first : (v : ℕ) → mixed (Programmed v) Blank ≡ Programmed v

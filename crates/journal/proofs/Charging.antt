@@ -23,8 +23,8 @@ done_banks width (program b u v) bs = length-set bs b (set (bank b bs) u (Progra
 done_banks width (erase b) bs = length-set bs b (replicate width Blank)
 
 cut_banks : (w : Write) (bs after : Banks) → Cut w bs after → length after ≡ length bs
-cut_banks (program b u v) bs after (x, c, e) = ap length e ∙ length-set bs b (set (bank b bs) u x)
-cut_banks (erase b) bs after (xs, c, e) = ap length e ∙ length-set bs b xs
+cut_banks (program b u v) bs after c = ap length c.is ∙ length-set bs b (set (bank b bs) u c.residue)
+cut_banks (erase b) bs after c = ap length c.is ∙ length-set bs b c.residue
 
 record AllDone (ws : List Write) (s s' : FlashState) : Type 0 where
   enough : length ws ≤ s.charge

@@ -238,7 +238,7 @@ module _ (bs : Banks) (r : Reading) (f : Found bs r) (there : other r.active < l
     pub move_cut : (k : ℕ) (after : Banks) → Leaves size k (moving (other r.active) ps (r.number + 1)) bs after →
         k < length (moving (other r.active) ps (r.number + 1)) → Outcome k after
     unfolding values top erased recorded
-    move_cut zero after l h = inl (unmoved after l.0 l.2 (loses_faded r.active f.o (bank (other r.active) bs) l.0 l.1 f.active.loses))
+    move_cut zero after l h = inl (unmoved after l.residue l.is (loses_faded r.active f.o (bank (other r.active) bs) l.residue l.allowed f.active.loses))
     move_cut (suc k) after l h = go (leaves_append size k (programs b 1 values) (program b 0 top ∷ []) erased after l)
       where
         b : ℕ
@@ -251,5 +251,5 @@ module _ (bs : Banks) (r : Reading) (f : Found bs r) (there : other r.active < l
             let t = programs_cut size values (size - 1) k room fewer q' m in
             inl (unmoved after (Blank ∷ t.behind) (set_before after (Blank ∷ t.behind) t.sets) tt)
         go (inr (zero, e, m)) =
-            top_cut (suc k) after (omega (arith, length_moving, length_programs b 1 values)) m.0 m.1 (set_top after m.0 m.2)
+            top_cut (suc k) after (omega (arith, length_moving, length_programs b 1 values)) m.residue m.allowed (set_top after m.residue m.is)
         go (inr (suc j, e, m)) = absurd (omega (arith, length_moving, length_programs b 1 values))

@@ -16,7 +16,7 @@ module _ {F : Type 0} (t : FaultGhosts F) where
   program_stopped s b u v s' e r = record {
     why = r.why;
     unchanged = r.unchanged;
-    cut = λ h. let x = r.cut h in record { units = _; allowed = (x.residue, x.allowed, refl); is = x.is };
+    cut = λ h. let x = r.cut h in record { units = _; allowed = record { residue = x.residue; allowed = x.allowed; is = refl }; is = x.is };
   }
 
   -- The writes ws from s have come to m, and the writes vs remain: whatever these do from m, all do from s.

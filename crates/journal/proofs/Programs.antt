@@ -172,5 +172,5 @@ module _ (width : ℕ) where
       k < length vs → Leaves width k (programs b u vs) bs after → Torn b bs after front vs k
   programs_cut [] m k r h q l = absurd (omega arith)
   programs_cut (v ∷ vs) zero k r h q l = absurd (omega arith)
-  programs_cut (v ∷ vs) (suc m) zero r h q l = torn_here v vs r l.0 l.1 l.2
+  programs_cut (v ∷ vs) (suc m) zero r h q l = torn_here v vs r l.residue l.allowed l.is
   programs_cut (v ∷ vs) {b} {u} (suc m) (suc k) r h q l = torn_later u v vs k (programs_cut vs m k (room_step r v) (omega arith) (omega arith) l)

@@ -23,10 +23,22 @@ abbrev pub done : ℕ → Write → Banks → Banks
 done width (program b u v) bs = slice_set bs b (slice_set (bank b bs) u (Programmed v))
 done width (erase b) bs = slice_set bs b (replicate width Blank)
 
+-- what a program that was cut leaves in its unit: the flash chooses the residue
+pub record ProgramLeft (b u v : ℕ) (bs after : Banks) : Type 0 where
+  pub residue : Cell
+  pub allowed : ProgramResidue v residue
+  pub is : after ≡ slice_set bs b (slice_set (bank b bs) u residue)
+
+-- what an erase that was cut leaves in its bank: the flash chooses the residue of each unit
+pub record EraseLeft (b : ℕ) (bs after : Banks) : Type 0 where
+  pub residue : List Cell
+  pub allowed : AllZip EraseResidue (bank b bs) residue
+  pub is : after ≡ slice_set bs b residue
+
 -- the units after may be what the cut write leaves
 abbrev pub Cut : Write → Banks → Banks → Type 0
-Cut (program b u v) bs after = (x : Cell) × ProgramResidue v x × (after ≡ slice_set bs b (slice_set (bank b bs) u x))
-Cut (erase b) bs after = (xs : List Cell) × AllZip EraseResidue (bank b bs) xs × (after ≡ slice_set bs b xs)
+Cut (program b u v) bs after = ProgramLeft b u v bs after
+Cut (erase b) bs after = EraseLeft b bs after
 
 -- each write is ready when those before it are done
 abbrev pub AllReady : ℕ → List Write → Banks → Type 0

@@ -23,6 +23,13 @@ pub struct Room {
 }
 
 impl Room {
+    // How many requests there is room for; a run takes up no more of them.
+    pub fn most(&self) -> usize
+        ensures { result ≡ self.now.most }
+    {
+        self.most
+    }
+
     // Room for a run of at most `most` requests, unless memory fails.
     pub fn new(heap: Global, most: usize) -> Result<Room, AllocError>
         ensures { IfOk result (λ room. room.most ≡ most) }

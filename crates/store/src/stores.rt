@@ -46,7 +46,7 @@ impl<F: Flash> Store<F> {
 
     // A cold store over a flash, whose next ticket has this number.
     pub fn new(flash: F, next: u32) -> Self
-        ensures flash { (moment F.Flash result).flash ≡ seen F.Flash flash }
+        ensures flash { result.flash ≡ flash }
         ensures cold { (moment F.Flash result).memory ≡ cold }
         ensures next { (moment F.Flash result).next ≡ next }
         ensures tied { Tied (moment F.Flash result) }
@@ -62,7 +62,7 @@ impl<F: Flash> Store<F> {
 
     // Takes the store apart.
     pub fn into_flash(self) -> F
-        ensures { seen F.Flash result ≡ (moment F.Flash self).flash }
+        ensures { result ≡ self.flash }
     {
         self.flash
     }

@@ -3,6 +3,7 @@
 // Of each call two things are said. `does`: exactly what it answers and what it leaves, whatever the store was before. `ledger`: after every past since
 // an accepted format the answer is the one that the ledger of that past calls for, and the store agrees with the past and this call; of format,
 // `past`: accepted, it begins one. That what the store knows stays what its units say is the invariant of its type.
+ghost use Rattle.std.specs.Prelude.{◌≡◌};
 ghost use Rattle.store.specs.declared.entries.Entry.TheVariants.{Recover, Begin, Put, Commit, Abandon, Get};
 ghost use Rattle.store.specs.Moments.{moment};
 ghost use Rattle.store.specs.Calls.{Formats, Does, ticket_number};
@@ -37,6 +38,7 @@ impl<F: Flash> Store<F> {
     pub fn begin(&mut self) -> Result<Ticket, Refusal>
         ensures does { Does (moment F.Flash self.old) (Begin (ticket_number result)) (moment F.Flash self.new) }
         ensures ledger { FollowsLedger (moment F.Flash self.old) (Begin (ticket_number result)) (moment F.Flash self.new) }
+        ensures flash { self.new.flash ≡ self.old.flash }
     {
         let number = self.judge(Event::Begin)?;
         Ok(Ticket { number })
@@ -47,6 +49,7 @@ impl<F: Flash> Store<F> {
     pub fn put(&mut self, ticket: &Ticket, key: u8, value: i32) -> Result<u32, Refusal>
         ensures does { Does (moment F.Flash self.old) (Put ticket.now.number key value result) (moment F.Flash self.new) }
         ensures ledger { FollowsLedger (moment F.Flash self.old) (Put ticket.now.number key value result) (moment F.Flash self.new) }
+        ensures flash { self.new.flash ≡ self.old.flash }
     {
         self.judge(Event::Put {
             ticket: ticket.number,
@@ -67,6 +70,7 @@ impl<F: Flash> Store<F> {
     pub fn abandon(&mut self, ticket: Ticket) -> Result<(), Refusal>
         ensures does { Does (moment F.Flash self.old) (Abandon ticket.number result) (moment F.Flash self.new) }
         ensures ledger { FollowsLedger (moment F.Flash self.old) (Abandon ticket.number result) (moment F.Flash self.new) }
+        ensures flash { self.new.flash ≡ self.old.flash }
     {
         let Ticket { number } = ticket;
         self.judge(Event::Abandon { ticket: number })?;
@@ -77,6 +81,7 @@ impl<F: Flash> Store<F> {
     pub fn get(&mut self, key: u8) -> Result<Option<i32>, Refusal>
         ensures does { Does (moment F.Flash self.old) (Get key result) (moment F.Flash self.new) }
         ensures ledger { FollowsLedger (moment F.Flash self.old) (Get key result) (moment F.Flash self.new) }
+        ensures flash { self.new.flash ≡ self.old.flash }
     {
         self.judge(Event::Look)?;
         if is_key(key) {

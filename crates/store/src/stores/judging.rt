@@ -3,7 +3,7 @@ ghost use Rattle.std.specs.Prelude.{◌≡◌, ℕ};
 ghost use Rattle.layout.specs.Held.{pairs_of};
 ghost use Rattle.journal.specs.Log.{reading_of};
 ghost use Rattle.store.specs.Moments.{moment};
-ghost use Rattle.store.specs.Calls.{Judged, Recovers, Formats, Opens, PutsOpen, CommitsOpen};
+ghost use Rattle.store.specs.Calls.{Judged, Recovers, Formats, Opens, PutsOpen, CommitsOpen, Untouched};
 
 use crate::changes::add;
 use crate::flashes::{is_roomy, power_up_and_format, power_up_and_read, write};
@@ -45,7 +45,8 @@ impl<F: Flash> Store<F> {
     // Opens an empty change.
     fn open(&mut self) -> Result<u32, Refusal>
         requires { self.old.phase ≡ Phase.Ready }
-        ensures { Opens (moment F.Flash self.old) (reading_of self.old.standing) result (moment F.Flash self.new) }
+        ensures opens { Opens (moment F.Flash self.old) (reading_of self.old.standing) result (moment F.Flash self.new) }
+        ensures flash { self.new.flash ≡ self.old.flash }
     {
         let ticket = self.next;
         self.next = ticket.checked_add(1).ok_or(Refusal::NoTickets)?;
@@ -57,7 +58,8 @@ impl<F: Flash> Store<F> {
     // Adds a pair to the open change.
     fn put_open(&mut self, pair: Pair) -> Result<u32, Refusal>
         requires { (ticket : ℕ) × (self.old.phase ≡ Phase.Changing ticket) }
-        ensures { (ticket : ℕ) → self.old.phase ≡ Phase.Changing ticket → PutsOpen (moment F.Flash self.old) (reading_of self.old.standing) ticket (pairs_of self.old.change) pair result (moment F.Flash self.new) }
+        ensures flash { self.new.flash ≡ self.old.flash }
+        ensures puts { (ticket : ℕ) → self.old.phase ≡ Phase.Changing ticket → PutsOpen (moment F.Flash self.old) (reading_of self.old.standing) ticket (pairs_of self.old.change) pair result (moment F.Flash self.new) }
     {
         add(&mut self.change, pair)
     }
@@ -82,7 +84,8 @@ impl<F: Flash> Store<F> {
     // kept: one match on phase and event, the project's form (docs/DECISIONS.md).
     // Judges a call by the phase and the call together, and changes the store.
     pub(crate) fn judge(&mut self, event: Event) -> Result<u32, Refusal>
-        ensures { Judged (moment F.Flash self.old) event result (moment F.Flash self.new) }
+        ensures judged { Judged (moment F.Flash self.old) event result (moment F.Flash self.new) }
+        ensures flash { Untouched event self.old.flash self.new.flash }
     {
         match (self.phase, event) {
             (_, Event::Format) => self.format_units(),

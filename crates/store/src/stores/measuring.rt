@@ -1,4 +1,5 @@
 // The calls of the store that give readings. They need its phase, its standing pairs and its number, and never touch the flash.
+ghost use Rattle.std.specs.Prelude.{◌≡◌};
 ghost use Rattle.store.specs.declared.entries.Entry.TheVariants.{Temperature, Pressure};
 ghost use Rattle.store.specs.Moments.{moment};
 ghost use Rattle.store.specs.Calls.{Does, step_numbers};
@@ -16,6 +17,7 @@ impl<F: Flash> Store<F> {
     pub fn temperature(&mut self, ut: i32) -> Result<Step, Refusal>
         ensures does { Does (moment F.Flash self.old) (Temperature ut (step_numbers result)) (moment F.Flash self.new) }
         ensures ledger { FollowsLedger (moment F.Flash self.old) (Temperature ut (step_numbers result)) (moment F.Flash self.new) }
+        ensures flash { self.new.flash ≡ self.old.flash }
     {
         self.judge(Event::Look)?;
         let numbers = step_numbers(&self.standing, ut)?;
@@ -26,6 +28,7 @@ impl<F: Flash> Store<F> {
     pub fn pressure(&mut self, step: Step, up: i32) -> Result<Line, Refusal>
         ensures does { Does (moment F.Flash self.old) (Pressure step.numbers up result) (moment F.Flash self.new) }
         ensures ledger { FollowsLedger (moment F.Flash self.old) (Pressure step.numbers up result) (moment F.Flash self.new) }
+        ensures flash { self.new.flash ≡ self.old.flash }
     {
         self.judge(Event::Look)?;
         line(&self.standing, step.numbers, up)

@@ -63,6 +63,7 @@ returns c =
             ac4_refused = λ change. refl;
             mb_refused = λ change. refl;
             refused_with_8 = refl;
+            refused_with_15 = refl;
             mirrored = λ v. refl;
             mirrored_first = λ v. refl;
           };

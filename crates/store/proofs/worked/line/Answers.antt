@@ -6,7 +6,7 @@ use Rattle.store.proofs.Looking.{line_old, line_is}
 use Rattle.store.proofs.worked.line.Goals as goal
 
 pub returns-then-step-standing : goal.returns-then-step-standing
-returns-then-step-standing c = line_old (pairs_of c.args.standing.now.pairs) c.args.standing.now.number c.args.step c.args.up c.in_ok-calibration.ensures.0 c.if-step-standing.true
+returns-then-step-standing c = line_old (pairs_of c.args.standing.now.pairs) c.args.standing.now.number c.args.step c.args.up c.in_ok-calibration.ensures.0 (search rules)
 
 pub returns-in_err-worked : goal.returns-in_err-worked
 returns-in_err-worked c =

@@ -17,8 +17,8 @@ returns-in_err-judge g c =
     let is : c.from_residual.result ≡ Err why = search rules in
     let e : Entry = Abandon shown c.from_residual.result in
     let d : Does m e m' =
-    subst (λ (r : Result (Unit {0}) Refusal). Does m (Abandon shown r) m') (sym is) (abandons_err m.memory m m' shown why c.in_err-judge.ensures) in
-    record { does = d; ledger = follows_ledger m e m' d }
+    subst (λ (r : Result (Unit {0}) Refusal). Does m (Abandon shown r) m') (sym is) (abandons_err m.memory m m' shown why c.in_err-judge.ensures.judged) in
+    record { does = d; ledger = follows_ledger m e m' d; flash = c.judge.ensures.flash }
 
 pub returns : goal.returns
 returns g c =
@@ -26,4 +26,4 @@ returns g c =
     let m' = moment g.F.Flash c.judge.new.self in
     let e : Entry = Abandon c.args.ticket.number (Ok tt) in
     let d : Does m e m' = search rules in
-    record { does = d; ledger = follows_ledger m e m' d }
+    record { does = d; ledger = follows_ledger m e m' d; flash = c.judge.ensures.flash }

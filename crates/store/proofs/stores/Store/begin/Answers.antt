@@ -16,13 +16,13 @@ returns-in_err-number g c =
     let is : c.from_residual.result ≡ Err why = search rules in
     let same : ticket_number c.from_residual.result ≡ Err why = ap ticket_number is in
     let e : Entry = Begin (ticket_number c.from_residual.result) in
-    let d : Does m e m' = subst (λ (r : Result ℕ Refusal). Does m (Begin r) m') (sym same) c.in_err-number.ensures in
-    record { does = d; ledger = follows_ledger m e m' d }
+    let d : Does m e m' = subst (λ (r : Result ℕ Refusal). Does m (Begin r) m') (sym same) c.in_err-number.ensures.judged in
+    record { does = d; ledger = follows_ledger m e m' d; flash = c.judge.ensures.flash }
 
 pub returns : goal.returns
 returns g c =
     let m = moment g.F.Flash c.args.self.now in
     let m' = moment g.F.Flash c.judge.new.self in
     let e : Entry = Begin (Ok c.in_ok-number.number) in
-    let d : Does m e m' = c.in_ok-number.ensures in
-    record { does = d; ledger = follows_ledger m e m' d }
+    let d : Does m e m' = c.in_ok-number.ensures.judged in
+    record { does = d; ledger = follows_ledger m e m' d; flash = c.judge.ensures.flash }

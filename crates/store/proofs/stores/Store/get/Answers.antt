@@ -20,8 +20,8 @@ returns-in_err-judge g c =
     let why = c.in_err-judge.field-0.0 in
     let is : c.from_residual.result ≡ Err why = search rules in
     let e : Entry = Get c.args.key c.from_residual.result in
-    let d : Does m e m' = subst (λ (r : Result (Option ℤ) Refusal). Does m (Get c.args.key r) m') (sym is) (looks_cold m m' f why c.in_err-judge.ensures) in
-    record { does = d; ledger = follows_ledger m e m' d }
+    let d : Does m e m' = subst (λ (r : Result (Option ℤ) Refusal). Does m (Get c.args.key r) m') (sym is) (looks_cold m m' f why c.in_err-judge.ensures.judged) in
+    record { does = d; ledger = follows_ledger m e m' d; flash = c.judge.ensures.flash }
 
 pub returns-then-is_key : goal.returns-then-is_key
 returns-then-is_key g c =
@@ -32,8 +32,8 @@ returns-then-is_key g c =
     let r : Result (Option ℤ) Refusal = Ok c.value.result in
     let q : r ≡ get_answer (pairs_of st.standing.pairs) c.args.key = search rules in
     let e : Entry = Get c.args.key r in
-    let d : Does m e m' = looks_warm m m' st.phase st.standing st.change refl f _ c.in_ok-judge.ensures r q in
-    record { does = d; ledger = follows_ledger m e m' d }
+    let d : Does m e m' = looks_warm m m' st.phase st.standing st.change refl f _ c.in_ok-judge.ensures.judged r q in
+    record { does = d; ledger = follows_ledger m e m' d; flash = c.judge.ensures.flash }
 
 pub returns-else-is_key : goal.returns-else-is_key
 returns-else-is_key g c =
@@ -44,5 +44,5 @@ returns-else-is_key g c =
     let r : Result (Option ℤ) Refusal = Err UnknownKey in
     let q : r ≡ get_answer (pairs_of st.standing.pairs) c.args.key = search rules in
     let e : Entry = Get c.args.key r in
-    let d : Does m e m' = looks_warm m m' st.phase st.standing st.change refl f _ c.in_ok-judge.ensures r q in
-    record { does = d; ledger = follows_ledger m e m' d }
+    let d : Does m e m' = looks_warm m m' st.phase st.standing st.change refl f _ c.in_ok-judge.ensures.judged r q in
+    record { does = d; ledger = follows_ledger m e m' d; flash = c.judge.ensures.flash }

@@ -23,8 +23,8 @@ returns-in_err-judge g c =
     let why = c.in_err-judge.field-0.0 in
     let is : c.from_residual.result ≡ Err why = search rules in
     let e : Entry = Pressure st up c.from_residual.result in
-    let d : Does m e m' = subst (λ (r : Result Line Refusal). Does m (Pressure st up r) m') (sym is) (looks_cold m m' f why c.in_err-judge.ensures) in
-    record { does = d; ledger = follows_ledger m e m' d }
+    let d : Does m e m' = subst (λ (r : Result Line Refusal). Does m (Pressure st up r) m') (sym is) (looks_cold m m' f why c.in_err-judge.ensures.judged) in
+    record { does = d; ledger = follows_ledger m e m' d; flash = c.judge.ensures.flash }
 
 pub returns : goal.returns
 returns g c =
@@ -39,5 +39,5 @@ returns g c =
     let fu : SFits w32 up = search rules in
     let q : c.line.result ≡ pressure_answer (pairs_of s.standing.pairs) s.standing.number st up = simp to_z-of_z at c.line.ensures in
     let e : Entry = Pressure st up c.line.result in
-    let d : Does m e m' = looks_warm m m' s.phase s.standing s.change refl f _ c.in_ok-judge.ensures c.line.result q in
-    record { does = d; ledger = follows_ledger m e m' d }
+    let d : Does m e m' = looks_warm m m' s.phase s.standing s.change refl f _ c.in_ok-judge.ensures.judged c.line.result q in
+    record { does = d; ledger = follows_ledger m e m' d; flash = c.judge.ensures.flash }

@@ -13,5 +13,5 @@ returns g c =
     let m' = moment g.F.Flash c.judge.new.self in
     let e : Entry = Put c.args.ticket.now.number c.args.key c.args.value c.judge.result in
     let v : SFits w32 c.args.value = search rules in
-    let d : Does m e m' = simp to_z-of_z at c.judge.ensures in
-    record { does = d; ledger = follows_ledger m e m' d }
+    let d : Does m e m' = simp to_z-of_z at c.judge.ensures.judged in
+    record { does = d; ledger = follows_ledger m e m' d; flash = c.judge.ensures.flash }

@@ -23,8 +23,8 @@ returns-in_err-judge g c =
     let is : c.from_residual.result ≡ Err why = search rules in
     let same : step_numbers c.from_residual.result ≡ Err why = ap step_numbers is in
     let e : Entry = Temperature c.args.ut (step_numbers c.from_residual.result) in
-    let d : Does m e m' = subst (λ (r : Result StepNumbers Refusal). Does m (Temperature c.args.ut r) m') (sym same) (looks_cold m m' f why c.in_err-judge.ensures) in
-    record { does = d; ledger = follows_ledger m e m' d }
+    let d : Does m e m' = subst (λ (r : Result StepNumbers Refusal). Does m (Temperature c.args.ut r) m') (sym same) (looks_cold m m' f why c.in_err-judge.ensures.judged) in
+    record { does = d; ledger = follows_ledger m e m' d; flash = c.judge.ensures.flash }
 
 pub returns-in_err-numbers : goal.returns-in_err-numbers
 returns-in_err-numbers g c =
@@ -42,8 +42,8 @@ returns-in_err-numbers g c =
     let e : Entry = Temperature ut (step_numbers c.from_residual-in_err-numbers.result) in
     let d : Does m e m' =
     subst (λ (x : Result StepNumbers Refusal). Does m (Temperature ut x) m') (sym same)
-    (looks_warm m m' s.phase s.standing s.change refl f _ c.in_ok-judge.ensures r q) in
-    record { does = d; ledger = follows_ledger m e m' d }
+    (looks_warm m m' s.phase s.standing s.change refl f _ c.in_ok-judge.ensures.judged r q) in
+    record { does = d; ledger = follows_ledger m e m' d; flash = c.judge.ensures.flash }
 
 pub returns : goal.returns
 returns g c =
@@ -56,5 +56,5 @@ returns g c =
     let r : Result StepNumbers Refusal = Ok c.in_ok-numbers.numbers in
     let q : r ≡ temperature_answer (pairs_of s.standing.pairs) s.standing.number ut = simp to_z-of_z at c.in_ok-numbers.ensures in
     let e : Entry = Temperature ut r in
-    let d : Does m e m' = looks_warm m m' s.phase s.standing s.change refl f _ c.in_ok-judge.ensures r q in
-    record { does = d; ledger = follows_ledger m e m' d }
+    let d : Does m e m' = looks_warm m m' s.phase s.standing s.change refl f _ c.in_ok-judge.ensures.judged r q in
+    record { does = d; ledger = follows_ledger m e m' d; flash = c.judge.ensures.flash }
