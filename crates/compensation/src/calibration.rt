@@ -62,6 +62,7 @@ impl Calibration {
     pub fn new(values: Coefficients) -> Option<Calibration>
         ensures { MatchOption result (admitted_set values ≡ false) (λ k. (admitted_set values ≡ true) × (k.values ≡ values)) }
     {
+        // kept: an `if`; with `then` and a closure the invariant of what it makes stays open, unless the closure has a contract.
         if are_admitted(&values) {
             Some(Calibration { values })
         } else {

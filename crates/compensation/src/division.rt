@@ -6,7 +6,7 @@ ghost use Rattle.compensation.specs.Ranges.{Size};
 
 // Rust's Euclidean division: for a divisor above 0 it rounds down.
 // kept: a function, and `pos 0 <ℤ d` in three contracts: in a function of its own a quotient cut towards zero fails by this contract, and
-// a value of a type for divisors above 0 would have to be made, by a test that cannot fail, at each of the calls.
+// a type for divisors above 0 would wrap a number at each of the calls, most of them literals.
 fn euclidean(n: i64, d: i64) -> i64
     requires { pos 0 <ℤ d }
     ensures { result ≡ int_div_euclid n d }

@@ -32,14 +32,14 @@ impl Deviation {
 
 // A balance with a gain above 0, and the B7 of a UP that is not below its B3.
 #[derive(Clone, Copy)]
-struct Weighed {
+struct Balanced {
     balance: Balance,
     b7: i64,
     ghost gain: { pos 0 <ℤ balance.b4 },
     ghost b7_within: { Between (pos 0) (pos 1000000000000) b7 },
 }
 
-impl Weighed {
+impl Balanced {
     fn p(self) -> i64
         ensures value { result ≡ p_of self.b7 self.balance.b4 }
         ensures range { pos 0 ≤ℤ result }
@@ -180,7 +180,7 @@ impl Calibration {
             return Err(ReadingRefusal::Pressure);
         }
         let b7 = self.b7(up - balance.b3);
-        Weighed { balance, b7 }.worked(self)
+        Balanced { balance, b7 }.worked(self)
     }
 
     // The pressure from the B5 of a temperature and any UP.

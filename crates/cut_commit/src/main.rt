@@ -19,6 +19,7 @@ const BANKS: usize = 2;
 const UNITS: usize = 64;
 
 // The keys of AC1 and B2.
+// kept: numbers of its own, as a program stands alone; a `const` cannot ask for the key of a name.
 const AC1: u8 = 1;
 
 const B2: u8 = 8;
@@ -27,7 +28,7 @@ const B2: u8 = 8;
 const PLENTY: u32 = 1000;
 
 // A simulator that is powered up twice: with plenty of charge, and then with `charge`, its cut leaving a unit unreadable.
-// kept: a maker of its own, as in the other programs, which stand alone and have other plans and sizes.
+// kept: a maker of its own, as in the other programs: they stand alone, and one maker for all would be a public function of the simulator more.
 fn planned(heap: Global, charge: u32) -> anyhow::Result<Simulator> {
     let table = vec![in heap; Unit::Blank; BANKS * UNITS]?;
     let mut simulator = Simulator::new(BANKS, UNITS, table)
@@ -61,6 +62,7 @@ fn write<F: Flash>(flash: &mut F, change: &Pairs) -> anyhow::Result<Option<Place
     Ok(written.err().map(|fault| fault.place()))
 }
 
+// kept: the words for a unit are this program's own.
 fn show_unit(rt: &impl Print, at: usize, unit: Unit) -> anyhow::Result<()> {
     print!(rt; "  unit {at}: ")?;
     match (unit, meaning(unit)) {
@@ -68,10 +70,10 @@ fn show_unit(rt: &impl Print, at: usize, unit: Unit) -> anyhow::Result<()> {
         (Unit::Unreadable, _) => println!(rt; "unreadable")?,
         (_, Meaning::Noise) => println!(rt; "nothing that the store knows")?,
         (_, Meaning::Record(pair)) => println!(rt; "record, key {} is {}", pair.key, pair.value)?,
-        (_, Meaning::Commit(count, number)) => println!(rt;
+        (_, Meaning::Commit { count, number }) => println!(rt;
             "commit number {number} of {count} records"
         )?,
-        (_, Meaning::Header(count, number)) => println!(rt;
+        (_, Meaning::Header { count, number }) => println!(rt;
             "header number {number} of {count} records"
         )?,
     }

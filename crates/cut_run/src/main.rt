@@ -17,7 +17,6 @@ use simulator::{Entry as Planned, Simulator};
 use std::alloc::Global;
 use store::entries::Entry;
 use store::refusals::Refusal;
-use store::steps::{Line, StepNumbers};
 use store::stores::Store;
 
 const BANKS: usize = 2;
@@ -25,6 +24,7 @@ const BANKS: usize = 2;
 const UNITS: usize = 64;
 
 // The keys of AC1 and PCOR.
+// kept: numbers of its own, as a program stands alone; a `const` cannot ask for the key of a name.
 const AC1: u8 = 1;
 
 const PCOR: u8 = 13;
@@ -35,7 +35,7 @@ const PCOR: u8 = 13;
 const CHARGES: [u32; 5] = [3 + 12 + 5, 12, 1, 100, 2];
 
 // A simulator of blank units whose power-ups bring these charges.
-// kept: a maker of its own, as in the other programs, which stand alone and have other plans and sizes.
+// kept: a maker of its own, as in the other programs: they stand alone, and one maker for all would be a public function of the simulator more.
 fn simulator(heap: Global) -> anyhow::Result<Simulator> {
     let table = vec![in heap; Unit::Blank; BANKS * UNITS]?;
     let mut simulator = Simulator::new(BANKS, UNITS, table)
@@ -112,6 +112,7 @@ fn ask_last_part(asked: &mut Vec<Request>) -> anyhow::Result<()> {
     Ok(())
 }
 
+// kept: the words are this program's; the store's refusals are known by their numbers.
 fn show_refusal(rt: &impl Print, refusal: Refusal) -> anyhow::Result<()> {
     print!(rt; "refused with {}", refusal.number())?;
     match refusal {
@@ -125,21 +126,25 @@ fn show_refusal(rt: &impl Print, refusal: Refusal) -> anyhow::Result<()> {
     Ok(())
 }
 
-fn show_number(rt: &impl Print, what: &str, answer: Result<u32, Refusal>) -> anyhow::Result<()> {
+// What a call answered, by `tell`, or its refusal.
+fn show_answer<T: Drop, F: FnOnce(T) -> anyhow::Result<()>>(
+    rt: &impl Print,
+    answer: Result<T, Refusal>,
+    tell: F,
+) -> anyhow::Result<()>
+    requires { (x : T) → F.pre tell x }
+{
     match answer {
-        Ok(number) => println!(rt; "{what} {number}")?,
-        Err(refusal) => show_refusal(rt, refusal)?,
+        Ok(x) => tell(x),
+        Err(refusal) => show_refusal(rt, refusal),
     }
-    Ok(())
 }
 
-fn show_abandon(rt: &impl Print, ticket: u32, answer: Result<(), Refusal>) -> anyhow::Result<()> {
-    print!(rt; "abandon of ticket {ticket}: ")?;
-    match answer {
-        Ok(()) => println!(rt; "done")?,
-        Err(refusal) => show_refusal(rt, refusal)?,
-    }
-    Ok(())
+fn show_number(rt: &impl Print, what: &str, answer: Result<u32, Refusal>) -> anyhow::Result<()> {
+    show_answer(rt, answer, |number| {
+        println!(rt; "{what} {number}")?;
+        Ok(())
+    })
 }
 
 fn name(key: u8) -> &'static str {
@@ -148,34 +153,13 @@ fn name(key: u8) -> &'static str {
 
 fn show_get(rt: &impl Print, key: u8, answer: Result<Option<i32>, Refusal>) -> anyhow::Result<()> {
     print!(rt; "get {}: ", name(key))?;
-    match answer {
-        Ok(Some(value)) => println!(rt; "{value}")?,
-        Ok(None) => println!(rt; "no value")?,
-        Err(refusal) => show_refusal(rt, refusal)?,
-    }
-    Ok(())
-}
-
-fn show_temperature(
-    rt: &impl Print,
-    ut: i32,
-    answer: Result<StepNumbers, Refusal>,
-) -> anyhow::Result<()> {
-    print!(rt; "temperature from {ut}: ")?;
-    match answer {
-        Ok(step) => println!(rt; "{} degrees", degrees(step.t))?,
-        Err(refusal) => show_refusal(rt, refusal)?,
-    }
-    Ok(())
-}
-
-fn show_pressure(rt: &impl Print, up: i32, answer: Result<Line, Refusal>) -> anyhow::Result<()> {
-    print!(rt; "pressure from {up}: ")?;
-    match answer {
-        Ok(line) => println!(rt; "{} degrees, {} hPa", degrees(line.t), hectopascals(line.p))?,
-        Err(refusal) => show_refusal(rt, refusal)?,
-    }
-    Ok(())
+    show_answer(rt, answer, |value| {
+        match value {
+            Some(value) => println!(rt; "{value}")?,
+            None => println!(rt; "no value")?,
+        }
+        Ok(())
+    })
 }
 
 // A call and what came of it.
@@ -203,10 +187,28 @@ fn show(rt: &impl Print, entry: Entry) -> anyhow::Result<()> {
             print!(rt; "commit of ticket {ticket}: ")?;
             show_number(rt, "number", answer)
         }
-        Entry::Abandon { ticket, answer } => show_abandon(rt, ticket, answer),
+        Entry::Abandon { ticket, answer } => {
+            print!(rt; "abandon of ticket {ticket}: ")?;
+            show_answer(rt, answer, |_| {
+                println!(rt; "done")?;
+                Ok(())
+            })
+        }
         Entry::Get { key, answer } => show_get(rt, key, answer),
-        Entry::Temperature { ut, answer } => show_temperature(rt, ut, answer),
-        Entry::Pressure { up, answer, .. } => show_pressure(rt, up, answer),
+        Entry::Temperature { ut, answer } => {
+            print!(rt; "temperature from {ut}: ")?;
+            show_answer(rt, answer, |step| {
+                println!(rt; "{} degrees", degrees(step.t))?;
+                Ok(())
+            })
+        }
+        Entry::Pressure { up, answer, .. } => {
+            print!(rt; "pressure from {up}: ")?;
+            show_answer(rt, answer, |line| {
+                println!(rt; "{} degrees, {} hPa", degrees(line.t), hectopascals(line.p))?;
+                Ok(())
+            })
+        }
     }
 }
 

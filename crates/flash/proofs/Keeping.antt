@@ -6,7 +6,7 @@ use Rattle.flash.specs.declared.faults.FlashFault.{Ghosts as FaultGhosts}
 use Rattle.flash.specs.declared.units.Unit.{Unit as Cell}
 use Rattle.flash.specs.declared.units.Unit.TheVariants.{Blank, Programmed}
 use Rattle.flash.specs.FlashState.{FlashState, unit_at, bank_of, with_unit, with_bank, after_write, after_cut}
-use Rattle.flash.specs.Calls.{read_refusal, program_refusal, erase_refusal, ProgramResidue, EraseResidue, Refused, ProgramDone, ProgramRefused, EraseDone, EraseRefused}
+use Rattle.flash.specs.Calls.{read_refusal, program_refusal, erase_refusal, ProgramResidue, EraseResidue, ProgramDone, ProgramRefused, EraseDone, EraseRefused}
 use Rattle.flash.proofs.Refusals.{read_refusal_parts, program_refusal_open, erase_refusal_open, number_cut, number_done}
 
 -- the two refusals that need no cut

@@ -12,7 +12,7 @@ pub enum Why {
     Cut,
 }
 
-// kept: bank and unit by their names; a `Place` in one field would have to be taken apart wherever a cause is told.
+// kept: bank and unit by their names: the fields are public, and the definitions of a cause name them.
 #[derive(Clone, Copy, PartialEq, Eq, Debug)]
 pub struct Cause {
     pub why: Why,

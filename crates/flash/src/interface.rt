@@ -32,6 +32,7 @@ pub trait Flash {
         ensures count { result ≡ width self.now };
 
     // A unit's state; changes nothing. Refused with 21 when off, then with 22 when the bank or unit does not exist.
+    // kept: bank and unit as two numbers: the two of the rule, told one by one; an erase names a bank alone.
     fn read(&self, bank: usize, unit: usize) -> Result<Unit, Self::Fault>
         ensures reads { Read Self.Fault.FlashFault (flash_state (units self.now) (width self.now) (power self.now) (charge self.now)) bank unit result };
 

@@ -18,7 +18,7 @@ pub(crate) fn three_units(charge: u8, power: u8) -> [u8; 44] {
     ]
 }
 
-fn open(heap: Global, bytes: &[u8]) -> Result<Image, Fail> {
+pub(crate) fn open(heap: Global, bytes: &[u8]) -> Result<Image, Fail> {
     Ok(Image::open(bytes.to_vec(heap)?).ok().ok_or("image")?)
 }
 

@@ -1,10 +1,9 @@
 // The mirror, alone and stacked.
-use crate::images::three_units;
+use crate::images::{open, three_units};
 use crate::shared::{entry, number, small};
 use flash::faults::FlashFault;
 use flash::interface::Flash;
 use flash::units::Unit;
-use image::Image;
 use mirror::Mirror;
 use simulator::Simulator;
 use std::alloc::Global;
@@ -80,8 +79,7 @@ fn mirror_of_mirrors(rt: HostRuntime) -> Result<(), Fail> {
 #[test]
 fn mirror_of_simulator_and_image(rt: HostRuntime) -> Result<(), Fail> {
     let simulator = small(rt.alloc())?;
-    let bytes = three_units(0, 0).to_vec(rt.alloc())?;
-    let image = Image::open(bytes).ok().ok_or("image")?;
+    let image = open(rt.alloc(), &three_units(0, 0))?;
     let mut m = Mirror::new(simulator, image);
     m.power_up();
     assert_eq!(rt; m.banks(), 1);

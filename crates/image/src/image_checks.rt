@@ -8,7 +8,7 @@ use crate::units::UNIT_SIZE;
 use flash::shapes::shape_fits;
 
 // Why bytes are no image: their mark or version, the numbers of banks and units, or the length.
-// kept: not one enum with the simulator's `ShapeFault`: each check names all of its own reasons, which is no less plain than two enums in one.
+// kept: not one enum with the simulator's `ShapeFault`, whose check would then name a mark that a table does not have.
 #[derive(Clone, Copy, PartialEq, Eq, Debug)]
 pub enum OpenFault {
     Mark,

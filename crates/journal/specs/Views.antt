@@ -13,5 +13,5 @@ abbrev pub shown : {X Y : Type 0} → Ghosts X Y → BankView X → List Cell
 shown g v = bank v.bank (visible (seen g v.flash.now))
 
 -- what these say
-abbrev pub said : {X Y : Type 0} → Ghosts X Y → BankView X → List Meaning
-said g v = meanings (shown g v)
+abbrev pub meanings_shown : {X Y : Type 0} → Ghosts X Y → BankView X → List Meaning
+meanings_shown g v = meanings (shown g v)

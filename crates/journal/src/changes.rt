@@ -10,7 +10,7 @@ use layout::merge::merged;
 use layout::pairs::Pairs;
 
 // What stands when a change with this number was written whole, in banks of `units` units.
-// kept: the parameters of `write_change`, for the reason given there.
+// kept: standing, change and number as parameters, as in `write_change`: a struct of them would be made and taken apart in one function of the store.
 pub fn standing_after(standing: &Standing, change: &Pairs, number: u32, units: usize) -> Standing
     ensures { reading_of result ≡ committed units (reading_of standing.now) (pairs_of change.now) number }
 {

@@ -4,6 +4,7 @@ ghost use Rattle.journal.specs.Commit.{other};
 ghost use Rattle.journal.specs.Reading.{active_bank};
 
 // By the numbers of the lawful headers of banks 0 and 1: the bank with the greater one, bank 0 at a tie.
+// kept: a match: by the order of options, in which none is least, it is one line, where an edit of that order turns more than it names.
 pub fn active_bank(first: Option<u32>, second: Option<u32>) -> Option<usize>
     ensures { result ≡ active_bank first second }
 {

@@ -7,7 +7,7 @@ ghost use Rattle.layout.specs.Held.{pairs_of};
 ghost use Rattle.journal.specs.Reading.{opening, closing, reading_in, end_of, header_number};
 ghost use Rattle.journal.specs.Log.{visible, reading_of, records_of, opening_at, tally, counted_at, tally_step};
 ghost use Rattle.flash.specs.Seen.{seen};
-ghost use Rattle.journal.specs.Views.{shown, said};
+ghost use Rattle.journal.specs.Views.{shown, meanings_shown};
 
 use crate::logs::{Log, Start};
 use crate::standing::Standing;
@@ -34,7 +34,7 @@ impl<F: Flash> BankView<'_, F> {
 
     // What a unit says.
     fn meaning(&self, at: usize) -> Meaning
-        ensures { result ≡ slice_index_or (said F.Flash self.now) at Noise }
+        ensures { result ≡ slice_index_or (meanings_shown F.Flash self.now) at Noise }
     {
         meaning(self.unit(at))
     }
@@ -42,7 +42,7 @@ impl<F: Flash> BankView<'_, F> {
     // The pairs of `count` units from a place on, if those are valid records with rising keys.
     fn records(&self, from: usize, count: u8) -> Option<Pairs>
         requires { from + count < 2 ^ 64 }
-        ensures { option_map pairs_of result ≡ records_of count (drop from (said F.Flash self.now)) }
+        ensures { option_map pairs_of result ≡ records_of count (drop from (meanings_shown F.Flash self.now)) }
     {
         // kept: a loop with the last key beside the pairs, 0 before the first, since keys begin at 1. A `try_fold` would carry both in
         // a tuple and drop the key at the end, with the same two reasons to stop in its closure.
@@ -63,9 +63,9 @@ impl<F: Flash> BankView<'_, F> {
 
     // What the lawful header gives.
     fn start(&self) -> Option<Start>
-        ensures { option_map (opening_at (said F.Flash self.now)) result ≡ opening (said F.Flash self.now) }
+        ensures { option_map (opening_at (meanings_shown F.Flash self.now)) result ≡ opening (meanings_shown F.Flash self.now) }
     {
-        let Meaning::Header(count, number) = self.meaning(0) else {
+        let Meaning::Header { count, number } = self.meaning(0) else {
             return None;
         };
         let pairs = self.records(1, count)?;
@@ -89,7 +89,7 @@ impl<F: Flash> BankView<'_, F> {
     // The pairs that a commit at this unit adds, if it counts.
     fn counted(&self, unit: usize, count: u8, number: u32, log: &Log) -> Option<Pairs>
         requires { log.now.run ≤ unit }
-        ensures { option_map pairs_of result ≡ counted_at (said F.Flash self.now) unit count number (tally log.now) }
+        ensures { option_map pairs_of result ≡ counted_at (meanings_shown F.Flash self.now) unit count number (tally log.now) }
     {
         if log.number.checked_add(1) == Some(number) && usize::from(count) <= log.run {
             self.records(unit - usize::from(count), count)
@@ -102,14 +102,14 @@ impl<F: Flash> BankView<'_, F> {
     fn step(&self, unit: usize, log: Log) -> Log
         requires before { log.run ≤ unit }
         requires inside { unit < 2 ^ 63 }
-        ensures { tally result ≡ tally_step (said F.Flash self.now) unit (tally log) (slice_index_or (said F.Flash self.now) unit Noise) }
+        ensures { tally result ≡ tally_step (meanings_shown F.Flash self.now) unit (tally log) (slice_index_or (meanings_shown F.Flash self.now) unit Noise) }
     {
         match self.meaning(unit) {
             Meaning::Record(_) => Log {
                 run: log.run + 1,
                 ..log
             },
-            Meaning::Commit(count, number) => match self.counted(unit, count, number, &log) {
+            Meaning::Commit { count, number } => match self.counted(unit, count, number, &log) {
                 Some(change) => Log {
                     number,
                     pairs: merged(&log.pairs, &change),
@@ -117,7 +117,7 @@ impl<F: Flash> BankView<'_, F> {
                 },
                 None => Log { run: 0, ..log },
             },
-            Meaning::Noise | Meaning::Header(..) => Log { run: 0, ..log },
+            Meaning::Noise | Meaning::Header { .. } => Log { run: 0, ..log },
         }
     }
 
@@ -125,8 +125,8 @@ impl<F: Flash> BankView<'_, F> {
     fn scan(&self, start: Start, units: usize) -> Log
         requires long { length (shown F.Flash self.now) ≡ units }
         requires few { units ≤ 4096 }
-        ensures pairs { pairs_of result.pairs ≡ (closing (opening_at (said F.Flash self.now) start)).pairs }
-        ensures number { result.number ≡ (closing (opening_at (said F.Flash self.now) start)).number }
+        ensures pairs { pairs_of result.pairs ≡ (closing (opening_at (meanings_shown F.Flash self.now) start)).pairs }
+        ensures number { result.number ≡ (closing (opening_at (meanings_shown F.Flash self.now) start)).number }
     {
         (start.next..units).fold(start.log, |log, unit| self.step(unit, log))
     }
@@ -144,7 +144,7 @@ impl<F: Flash> BankView<'_, F> {
 
     // What the bank stands for, if its header is lawful.
     pub(crate) fn standing(&self) -> Option<Standing>
-        ensures { option_map reading_of result ≡ option_map (reading_in (visible (seen F.Flash self.now.flash.now)) self.now.bank) (opening (said F.Flash self.now)) }
+        ensures { option_map reading_of result ≡ option_map (reading_in (visible (seen F.Flash self.now.flash.now)) self.now.bank) (opening (meanings_shown F.Flash self.now)) }
     {
         let start = self.start()?;
         let units = self.flash.units_per_bank();

@@ -67,8 +67,8 @@ pub fn format_banks<F: Flash>(flash: &mut F) -> Result<(), F::Fault>
 
 // Writes a change with its number over the units that stand: behind the end of the active bank if it fits there, and
 // otherwise, merged with the standing pairs, into the other bank.
-// kept: standing, change and number as parameters, here and in `append`; a caller has each in a place of its own and would build a
-// struct of them for this one call.
+// kept: standing, change and number as parameters, here, in `append` and in `standing_after`: two of them are lent from where the caller keeps them,
+// the number is what he has judged before, and a struct of all three would be made and taken apart in one function of the store.
 pub fn write_change<F: Flash>(
     flash: &mut F,
     standing: &Standing,

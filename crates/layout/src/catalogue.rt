@@ -23,7 +23,7 @@ struct Row {
     pub limits: Limits,
 }
 
-// kept: the ranges that `compensation` has as well: neither crate depends on the other, since a store knows no arithmetic.
+// kept: the ranges that `compensation` has as well: neither crate depends on the other, since the units of a store know no arithmetic.
 const SIGNED: Limits = Limits {
     low: -32768,
     high: 32767,

@@ -19,6 +19,7 @@ const COMMIT: u8 = 0x43;
 const HEADER: u8 = 0x48;
 
 // How many records a commit and a header may count.
+// kept: 12 as in the store's `MOST`: here what a unit of the format may say, there how many pairs a change may have.
 const COMMIT_MOST: u8 = 12;
 
 const HEADER_MOST: u8 = 48;
@@ -43,8 +44,8 @@ fn seal(mark: u8, second: u8, word: u32) -> u64
     high | u64::from(content_crc(high))
 }
 
-// kept: three functions, since each promises its own kind of unit; what they share is `seal`.
 // The value that is written for a record. It is read back as the pair, if that is admitted, and no other value is.
+// kept: three functions, since each promises its own kind of unit; what they share is `seal`.
 pub fn encode_record(pair: Pair) -> u64
     ensures value { result ≡ record_value pair }
     ensures read_back { decoded result ≡ as_record pair }
@@ -87,8 +88,14 @@ fn meant(high: u64) -> Meaning
     };
     match mark {
         RECORD if admits(pair) => Meaning::Record(pair),
-        COMMIT if second <= COMMIT_MOST => Meaning::Commit(second, word),
-        HEADER if second <= HEADER_MOST => Meaning::Header(second, word),
+        COMMIT if second <= COMMIT_MOST => Meaning::Commit {
+            count: second,
+            number: word,
+        },
+        HEADER if second <= HEADER_MOST => Meaning::Header {
+            count: second,
+            number: word,
+        },
         _ => Meaning::Noise,
     }
 }

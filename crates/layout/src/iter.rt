@@ -2,27 +2,37 @@
 ghost use Rattle.std.specs.Prelude.{◌≡◌};
 ghost use Rattle.std.specs.Iterator.{YieldsFirst, item_count};
 ghost use Rattle.layout.specs.Held.{pairs_of, pairs_left};
+ghost use Rattle.layout.specs.PairLists.{paired};
 
 use crate::meanings::Pair;
 use crate::pairs::Pairs;
+use std::slice::Iter;
 
 // Gives the pairs of a list in the order of their keys.
-// kept: a place of its own: the iterators of both arrays in one would be a `Zip` and a closure, whose type cannot be named here.
+// kept: two iterators side by side; tried with one `Zip`, whose contract leaves open what it has to give after its end, where `YieldsFirst`
+// promises that it is nothing.
 #[derive(Drop)]
 pub struct PairsIter<'a> {
-    pairs: &'a Pairs,
-    // the place of the next pair
-    place: usize,
+    keys: Iter<'a, u8>,
+    values: Iter<'a, i32>,
+}
+
+impl<'a> PairsIter<'a> {
+    pub(crate) fn new(keys: &'a [u8], values: &'a [i32]) -> PairsIter<'a>
+        ensures { pairs_left result ≡ paired keys.now values.now }
+    {
+        PairsIter {
+            keys: keys.iter(),
+            values: values.iter(),
+        }
+    }
 }
 
 impl Pairs {
     pub fn iter(&self) -> PairsIter<'_>
         ensures { pairs_left result ≡ pairs_of self.now }
     {
-        PairsIter {
-            pairs: self,
-            place: 0,
-        }
+        self.table.iter()
     }
 }
 
@@ -46,8 +56,9 @@ impl Iterator for PairsIter<'_> {
     ghost remaining = { item_count pairs_left };
 
     fn next(&mut self) -> Option<Pair> {
-        let pair = self.pairs.at(self.place)?;
-        self.place += 1;
-        Some(pair)
+        Some(Pair {
+            key: *self.keys.next()?,
+            value: *self.values.next()?,
+        })
     }
 }

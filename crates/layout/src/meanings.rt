@@ -7,13 +7,11 @@ pub struct Pair {
 
 // Noise is all that is passed over: a unit that is blank or unreadable, a wrong CRC, another mark, a count that is too great,
 // a pair that the catalogue does not admit.
+// kept: count and number in both, told by their names; a struct of the two would be made and taken apart at each unit.
 #[derive(Clone, Copy, PartialEq, Eq, Debug)]
 pub enum Meaning {
     Noise,
     Record(Pair),
-    // kept: two plain numbers, as the unit has them.
-    // Count and number.
-    Commit(u8, u32),
-    // Count and number.
-    Header(u8, u32),
+    Commit { count: u8, number: u32 },
+    Header { count: u8, number: u32 },
 }

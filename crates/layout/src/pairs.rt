@@ -11,7 +11,7 @@ use crate::table::Table;
 
 #[derive(Clone, Copy)]
 pub struct Pairs {
-    table: Table,
+    pub(crate) table: Table,
     ghost few: { table.len ≤ 13 },
     ghost ok: { well_formed (pairs_in table) ≡ true },
 }

@@ -1,10 +1,12 @@
 // Keys and values side by side in two arrays of 13 places, of which the first `len` are in use.
 // kept: two arrays, a length and no invariant of its own, the project's form of a list of pairs (docs/DECISIONS.md); so each method that needs `len ≤ 13` asks for it.
-ghost use Rattle.std.specs.Prelude.{◌≡◌, ◌+◌, ◌<◌, ◌≤◌, [], length, take, slice_set};
+ghost use Rattle.std.specs.Prelude.{◌≡◌, ◌+◌, ◌-◌, ◌<◌, ◌≤◌, [], length, take, slice_set};
 ghost use Rattle.std.specs.List.{insert, slice_get};
+ghost use Rattle.layout.specs.Held.{pairs_left};
 ghost use Rattle.layout.specs.PairLists.{place_of, value_of, with_pair};
 ghost use Rattle.layout.specs.Tables.{pairs_in};
 
+use crate::iter::PairsIter;
 use crate::meanings::Pair;
 
 #[derive(Clone, Copy)]
@@ -14,13 +16,12 @@ pub struct Table {
     pub len: usize,
 }
 
-// Puts `x` at a place among the first `len` elements, and moves those from there on up by one.
-fn insert_at<T: Copy>(xs: &mut [T], len: usize, at: usize, x: T)
-    requires within { at ≤ len }
-    requires room { len < length xs.old }
-    ensures { take (len + 1) xs.new ≡ insert (take len xs.old) at x }
+// Puts `x` at a place and moves the elements from there on up by one; the last one makes room.
+fn insert_at<T: Copy>(xs: &mut [T], at: usize, x: T)
+    requires { at < length xs.old }
+    ensures { xs.new ≡ insert (take (length xs.old - 1) xs.old) at x }
 {
-    xs.copy_within(at..len, at + 1);
+    xs.copy_within(at..xs.len() - 1, at + 1);
     xs[at] = x;
 }
 
@@ -35,8 +36,15 @@ impl Table {
         }
     }
 
+    pub(crate) fn iter(&self) -> PairsIter<'_>
+        requires { self.now.len ≤ 13 }
+        ensures { pairs_left result ≡ pairs_in self.now }
+    {
+        PairsIter::new(&self.keys[..self.len], &self.values[..self.len])
+    }
+
     // How many keys stand before this one.
-    // kept: no `partition_point`: its answer needs rising keys, a premise that the table does not have and three methods would have to ask for.
+    // kept: no `partition_point`: its answer needs rising keys, a premise that the table does not have and `place` and `lay` would have to ask for.
     pub(crate) fn place(&self, key: u8) -> usize
         requires { self.now.len ≤ 13 }
         ensures { result ≡ place_of key (take self.now.len self.now.keys) }
@@ -64,8 +72,8 @@ impl Table {
         ensures pairs { pairs_in self.new ≡ insert (pairs_in self.old) at pair }
         ensures len { self.new.len ≡ self.old.len + 1 }
     {
-        insert_at(&mut self.keys, self.len, at, pair.key);
-        insert_at(&mut self.values, self.len, at, pair.value);
+        insert_at(&mut self.keys[..=self.len], at, pair.key);
+        insert_at(&mut self.values[..=self.len], at, pair.value);
         self.len += 1;
     }
 

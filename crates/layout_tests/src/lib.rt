@@ -76,7 +76,10 @@ mod tests {
         );
         assert_eq!(rt;
             meaning(Unit::Programmed(encode_header(48, 7))),
-            Meaning::Header(48, 7)
+            Meaning::Header {
+                count: 48,
+                number: 7
+            }
         );
         assert_eq!(rt; meaning(Unit::Unreadable), Meaning::Noise);
     }

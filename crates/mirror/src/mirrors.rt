@@ -113,7 +113,8 @@ impl<A: Flash, B: Flash> Flash for Mirror<A, B> {
             .min(self.second.units_per_bank())
     }
 
-    // kept: each kind of flash asks its own state whether it is on and has the place; one function of all five values is no plainer.
+    // kept: each kind of flash asks its own state whether it is on and has the place, here and in `erase`: a gate for both calls would take an optional
+    // unit, and want a definition between `read_refusal` and `erase_refusal`, of which the meaning of a flash has two.
     fn read(&self, bank: usize, unit: usize) -> Result<Unit, MirrorFault<A::Fault, B::Fault>>
         ensures reads { Read (mirror_fault A.Fault.FlashFault B.Fault.FlashFault) (mirrored (seen A.Flash self.now.first) (seen B.Flash self.now.second)) bank unit result }
         ensures sides { ReadSides (seen A.Flash self.now.first) (seen B.Flash self.now.second) bank unit result }
@@ -151,7 +152,7 @@ impl<A: Flash, B: Flash> Flash for Mirror<A, B> {
         }
     }
 
-    // kept: as in `read`; here no unit is asked for, and the fault has none.
+    // kept: the gate of `read` once more, for the reason given there; here no unit is asked for, and the fault has none.
     fn erase(&mut self, bank: usize) -> Result<(), MirrorFault<A::Fault, B::Fault>>
         ensures erases { Erase (mirror_fault A.Fault.FlashFault B.Fault.FlashFault) (mirrored (seen A.Flash self.old.first) (seen B.Flash self.old.second)) bank (mirrored (seen A.Flash self.new.first) (seen B.Flash self.new.second)) result }
         ensures sides { EraseSides A.Fault.FlashFault B.Fault.FlashFault (seen A.Flash self.old.first) (seen B.Flash self.old.second) (seen A.Flash self.new.first) (seen B.Flash self.new.second) bank result }

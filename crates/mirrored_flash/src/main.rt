@@ -22,7 +22,7 @@ fn blank_image(heap: Global) -> anyhow::Result<Image> {
 }
 
 // A simulator whose first power-up completes two writes and whose cut leaves its unit unreadable.
-// kept: a maker of its own, as in the other programs, which stand alone and have other plans and sizes.
+// kept: a maker of its own, as in the other programs: they stand alone, and one maker for all would be a public function of the simulator more.
 fn short_simulator(heap: Global) -> anyhow::Result<Simulator> {
     let table = vec![in heap; Unit::Blank; UNITS]?;
     let mut simulator = Simulator::new(1, UNITS, table)
@@ -37,6 +37,7 @@ fn short_simulator(heap: Global) -> anyhow::Result<Simulator> {
 }
 
 // What one unit holds, or that it cannot be told.
+// kept: the words for a unit are this program's own.
 fn show<F: Flash>(rt: &impl Print, name: &str, flash: &F, unit: usize) -> anyhow::Result<()> {
     match flash.read(0, unit) {
         Ok(Unit::Blank) => println!(rt; "    {name}: blank")?,

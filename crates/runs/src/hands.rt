@@ -8,6 +8,7 @@ use std::collections::VecDeque;
 use store::steps::{Step, StepNumbers};
 use store::tickets::Ticket;
 
+// kept: steps by their places, with the places of the used ones left empty: a request names a step by its place.
 pub(crate) struct Hand {
     pub tickets: VecDeque<Ticket>,
     pub steps: Vec<Option<Step>>,

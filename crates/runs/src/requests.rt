@@ -2,7 +2,7 @@
 
 // One call. A ticket is named by its number, a step by its place among the steps that the run was given, counted from 0.
 // kept: an enum of its own beside the store's `Entry` and `Event`, which list the same calls: a request has a step's place where an entry has
-// the step's numbers and every answer, and an event has only what the phase has a say in. One type for all three would hold what two lack.
+// the step's numbers and the answer, and an event has only what the phase has a say in. One type for all three would hold what two lack.
 #[derive(Clone, Copy, PartialEq, Eq, Debug)]
 pub enum Request {
     Recover,

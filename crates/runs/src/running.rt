@@ -93,7 +93,8 @@ fn turn<F: Flash>(store: &mut Store<F>, hand: &mut Hand, request: Request) -> Op
 }
 
 // Takes up the requests in their order.
-// kept: store, hand and log as three parameters: the store is the caller's, the hand is taken apart at the end, and the log is the answer.
+// kept: store and hand side by side in six functions, here and in `abandon_each` with the log: the store is the caller's and lent for the run, the hand is taken apart at its
+// end, and the log is the answer. The contracts speak of the store's moments, which in a struct would all lie behind its borrow.
 fn take_up<F: Flash>(
     store: &mut Store<F>,
     hand: &mut Hand,

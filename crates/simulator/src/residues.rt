@@ -16,6 +16,7 @@ pub(crate) fn program_residue(residue: u8, value: u64) -> Unit
 }
 
 // What a cut erase leaves of unit u, which held x.
+// kept: two bits of the pattern, which is a number, told by this one match.
 fn unit_residue(pattern: u64, u: usize, x: Unit) -> Unit
     ensures { result ≡ unit_residue pattern u x }
 {

@@ -5,7 +5,7 @@ ghost use Rattle.simulator.specs.Shapes.{make_refusal, shape_number};
 use flash::shapes::shape_fits;
 
 // Why no simulator was made: its shape, or a table of another length.
-// kept: not one enum with the image's `OpenFault`: each check names all of its own reasons, which is no less plain than two enums in one.
+// kept: not one enum with the image's `OpenFault`, in which this check would name a mark that a table does not have.
 #[derive(Clone, Copy, PartialEq, Eq, Debug)]
 pub enum ShapeFault {
     Shape,

@@ -21,6 +21,7 @@ pub struct Entry {
 
 // The table holds the units bank by bank. `entry` is what the last power-up set, its charge less the writes since;
 // `position` entries of the plan were taken by power-ups.
+// kept: `banks` and `width` beside the table: one table, which the caller hands in, as no bank is to ask for memory.
 // kept: `position` beside the plan: the entries taken count for its limit and for what `add_entry` answers, so that none can leave it.
 #[derive(Drop)]
 pub struct Simulator {

@@ -40,8 +40,9 @@ cold_answer (ready r) f why e = let z : ◌≡◌ {A = ℕ} 0 1 = cc in absurd (
 cold_answer (changing r t ch) f why e = let z : ◌≡◌ {A = ℕ} 0 1 = cc in absurd (omega arith)
 
 -- a store that is cold refuses every look
-pub looks_cold : {A : Type 0} (m m' : Moment) (f : List Pair → ℕ → Result A Refusal) (why : Refusal) → Looks m number_of (Err why) m' → Looks m f (Err why) m'
-looks_cold m m' f why d = (cold_answer m.memory f why d.0, d.1, d.2, d.3)
+pub looks_cold : {A : Type 0} (m m' : Moment) (f : List Pair → ℕ → Result A Refusal) (why : Refusal) (r : Result A Refusal) → r ≡ Err why →
+    Looks m number_of (Err why) m' → Looks m f r m'
+looks_cold m m' f why r is d = (is ∙ cold_answer m.memory f why d.0, d.1, d.2, d.3)
 
 warm_answer : {A : Type 0} (p : Phase) (st : Standing) (ch : Pairs) (f : List Pair → ℕ → Result A Refusal) (n : ℕ) → Ok n ≡ looked (memory_of p st ch) number_of →
     f (pairs_of st.pairs) st.number ≡ looked (memory_of p st ch) f

@@ -9,6 +9,7 @@ use layout::meanings::Pair;
 use layout::pairs::Pairs;
 
 // How many pairs a change may have.
+// kept: 12 as in the `COMMIT_MOST` of `layout`, which says what a unit of the format may count.
 const MOST: usize = 12;
 
 // Adds a pair to a change or replaces the one of its key, and answers how many pairs it then has.

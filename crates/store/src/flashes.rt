@@ -42,7 +42,7 @@ pub(crate) fn power_up_and_format<F: Flash>(flash: &mut F) -> Result<(), Refusal
 
 // Writes a change with the next number.
 // kept: the closure of the format once more, shorter than a function and its contract.
-// kept: what stands, the change and its number side by side, as `write_change` of `journal` takes them.
+// kept: what stands, the change and its number side by side: `commit_open` alone has all three, and would make and take apart a struct of them.
 pub(crate) fn write<F: Flash>(
     flash: &mut F,
     standing: &Standing,

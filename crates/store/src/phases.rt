@@ -11,8 +11,8 @@ pub enum Phase {
 
 // A call, as far as the phase has a say in it; the ticket is the number of the one that was shown. `Look` is every call that
 // only looks at what stands.
-// kept: the calls that change something are listed in `Entry` as well, which has every call with its answer; one type for both would hold answers
-// before there are any.
+// kept: the calls that change something, all but format, are listed in `Entry` as well, which has each call after a format with its answer; one type
+// for both would hold answers before there are any.
 #[derive(Clone, Copy, PartialEq, Eq, Debug)]
 pub enum Event {
     Format,

@@ -8,6 +8,9 @@ use compensation::readings::ReadingRefusal;
 use flash::faults::Place;
 use readings::gathered::Absent;
 
+// kept: the three of `ReadingRefusal` as variants of this enum again, and not one that holds it: the sixteen are one list of numbers, and a caller
+// tells each by one match.
+// kept: no `Display`: in words a refusal stands in one program alone, and the words are that program's.
 #[derive(Clone, Copy, PartialEq, Eq, Debug)]
 pub enum Refusal {
     // 1: the store is cold.
@@ -46,7 +49,7 @@ pub enum Refusal {
 
 impl Refusal {
     // The number by which the refusal is known.
-    // kept: a match; two of the variants hold data, so that the numbers cannot be discriminants of the enum.
+    // kept: a match; two of the variants hold data, so that `as` gives no number.
     pub fn number(self) -> u8
         ensures { result ≡ refusal_number self }
     {
@@ -72,8 +75,6 @@ impl Refusal {
 }
 
 // 12, 15 and 16 by what the arithmetic refused.
-// kept: three variants of `Refusal` again, and not one that holds a `ReadingRefusal`: the sixteen are one list in the order in which they
-// are judged, and a caller tells each by one match.
 impl From<ReadingRefusal> for Refusal {
     ghost from_gives = { λ e r. r ≡ refusal_of e };
 

@@ -14,9 +14,9 @@ mod calls;
 mod judging;
 mod measuring;
 
+// What stands by the units is held in `standing` unless the store is cold, an open change in `change` while it is changing.
 // kept: fields beside the phase. Held in it, they would be matched for a second time, with an arm that cannot be, by the calls that only look at what
 // stands: these are judged by the one match on phase and event, as the project wants, and that answers a number.
-// What stands by the units is held in `standing` unless the store is cold, an open change in `change` while it is changing.
 #[derive(Drop)]
 pub struct Store<F: Flash> {
     flash: F,

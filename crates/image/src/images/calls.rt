@@ -35,7 +35,8 @@ impl Flash for Image {
         self.header().width
     }
 
-    // kept: each kind of flash asks its own state whether it is on and has the place; one function of all five values is no plainer.
+    // kept: each kind of flash asks its own state whether it is on and has the place, here and in `erase`: a gate for both calls would take an optional
+    // unit, and want a definition between `read_refusal` and `erase_refusal`, of which the meaning of a flash has two.
     fn read(&self, bank: usize, unit: usize) -> Result<Unit, ImageFault> {
         let header = self.header();
         if !header.is_on {
@@ -67,7 +68,7 @@ impl Flash for Image {
         Ok(())
     }
 
-    // kept: as in `read`; here no unit is asked for, and the fault has none.
+    // kept: the gate of `read` once more, for the reason given there; here no unit is asked for, and the fault has none.
     fn erase(&mut self, bank: usize) -> Result<(), ImageFault>
         ensures erases { Erase ⟦<ImageFault as FlashFault>⟧ (image_flash (image_bytes self.old)) bank (image_flash (image_bytes self.new)) result }
         ensures buffer { image_bytes self.new ≡ image_after_erase (image_bytes self.old) bank }

@@ -2,7 +2,7 @@
 ghost use Rattle.std.specs.Prelude.{◌≡◌, ◌+◌, ◌*◌, ◌<◌, ◌≤◌, vec_len};
 ghost use Rattle.flash.specs.Calls.{Program, Erase, PoweredUp};
 ghost use Rattle.simulator.specs.Tables.{rows};
-ghost use Rattle.simulator.specs.SimulatorStates.{state_of, flash_of, with_bank_blank, with_bank_cut, paid, turned_off, next_entry, after_power_up, after_program, after_erase};
+ghost use Rattle.simulator.specs.SimulatorStates.{state_of, flash_of, paid, turned_off, next_entry, after_power_up, after_program, after_erase};
 ghost use Rattle.simulator.specs.Formed.{table_formed, items, full_of};
 
 use crate::residues::{cut_erase, program_residue};
@@ -74,7 +74,8 @@ impl Flash for Simulator {
         self.width
     }
 
-    // kept: each kind of flash asks its own state whether it is on and has the place; one function of all five values is no plainer.
+    // kept: each kind of flash asks its own state whether it is on and has the place, here and in `erase`: a gate for both calls would take an optional
+    // unit, and want a definition between `read_refusal` and `erase_refusal`, of which the meaning of a flash has two.
     fn read(&self, bank: usize, unit: usize) -> Result<Unit, SimulatorFault> {
         if !self.on {
             return Err(SimulatorFault::new(Why::Off, bank, Some(unit)));
@@ -103,7 +104,7 @@ impl Flash for Simulator {
         Ok(())
     }
 
-    // kept: as in `read`; here no unit is asked for, and the fault has none.
+    // kept: the gate of `read` once more, for the reason given there; here no unit is asked for, and the fault has none.
     fn erase(&mut self, bank: usize) -> Result<(), SimulatorFault>
         ensures erases { Erase ⟦<SimulatorFault as FlashFault>⟧ (flash_of (state_of self.old)) bank (flash_of (state_of self.new)) result }
         ensures state { state_of self.new ≡ after_erase (state_of self.old) bank }

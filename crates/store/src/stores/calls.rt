@@ -45,7 +45,8 @@ impl<F: Flash> Store<F> {
     }
 
     // Adds a pair to the open change or replaces the one of its key; answers how many pairs the change has.
-    // kept: key and value as two arguments, as a fitter names them: a `Pair` is the layout's, and would be made for this call alone.
+    // kept: key and value as two arguments, here, in `Entry` and in the requests of a run: the definitions of a put name both, and a `Pair` would be made
+    // for each call.
     pub fn put(&mut self, ticket: &Ticket, key: u8, value: i32) -> Result<u32, Refusal>
         ensures does { Does (moment F.Flash self.old) (Put ticket.now.number key value result) (moment F.Flash self.new) }
         ensures ledger { FollowsLedger (moment F.Flash self.old) (Put ticket.now.number key value result) (moment F.Flash self.new) }

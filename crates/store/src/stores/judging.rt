@@ -81,8 +81,8 @@ impl<F: Flash> Store<F> {
         Ok(number)
     }
 
-    // kept: one match on phase and event, the project's form (docs/DECISIONS.md).
     // Judges a call by the phase and the call together, and changes the store.
+    // kept: one match on phase and event, the project's form (docs/DECISIONS.md).
     pub(crate) fn judge(&mut self, event: Event) -> Result<u32, Refusal>
         ensures judged { Judged (moment F.Flash self.old) event result (moment F.Flash self.new) }
         ensures flash { Untouched event self.old.flash self.new.flash }

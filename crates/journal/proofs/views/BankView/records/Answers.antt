@@ -2,20 +2,20 @@ use Rattle.std.proofs.Common.{◌≡◌, ◌+◌, ◌-◌, ◌<◌, ◌≤◌, d
 use Rattle.std.proofs.lemmas.Bool.{cond-true}
 use Rattle.flash.specs.declared.units.Unit.TheVariants.{Blank}
 use Rattle.layout.specs.Held.{pairs_of}
-use Rattle.journal.specs.Views.{shown, said}
+use Rattle.journal.specs.Views.{shown, meanings_shown}
 use Rattle.journal.proofs.Sound.{record_admitted}
 use Rattle.journal.proofs.Gathering.{Gathered, gathered_none, gathered_more, gathered_low, gathered_other, gathered_all, said_after, meaning_at}
 use Rattle.journal.proofs.views.BankView.records.Goals as goal
 
 pub loop-unit-init : goal.loop-unit-init
 loop-unit-init g c =
-    let ms = said g.F.Flash c.args.self.now in
+    let ms = meanings_shown g.F.Flash c.args.self.now in
     let z : 0 ≡ c.args.from - c.args.from = omega arith in
     (omega arith, subst (Gathered (drop c.args.from ms) c.args.count (pairs_of c.new-pairs.result) 0) z (gathered_none (drop c.args.from ms) c.args.count (pairs_of c.new-pairs.result) c.new-pairs.ensures))
 
 pub returns-then-pair-last : goal.returns-then-pair-last
 returns-then-pair-last g c =
-    let ms = said g.F.Flash c.args.self.now in
+    let ms = meanings_shown g.F.Flash c.args.self.now in
     let i = c.loop-unit.unit - c.args.from in
     let h : i < c.args.count = omega (arith, c.from.ensures, c.loop-unit-test.true, c.loop-unit.invariant.0) in
     gathered_low (drop c.args.from ms) c.args.count (pairs_of c.loop-unit.pairs) c.loop-unit.last i c.loop-unit.invariant.1
@@ -24,7 +24,7 @@ returns-then-pair-last g c =
 pub loop-unit-preserved : goal.loop-unit-preserved
 loop-unit-preserved g c =
     let us = shown g.F.Flash c.args.self.now in
-    let ms = said g.F.Flash c.args.self.now in
+    let ms = meanings_shown g.F.Flash c.args.self.now in
     let i = c.loop-unit.unit - c.args.from in
     let h : i < c.args.count = omega (arith, c.from.ensures, c.loop-unit-test.true, c.loop-unit.invariant.0) in
     let n : i + 1 ≡ c.loop-unit.unit + 1 - c.args.from = omega (arith, c.loop-unit.invariant.0) in
@@ -39,7 +39,7 @@ loop-unit-preserved g c =
 
 pub returns-in_default : goal.returns-in_default
 returns-in_default g c =
-    let ms = said g.F.Flash c.args.self.now in
+    let ms = meanings_shown g.F.Flash c.args.self.now in
     let i = c.loop-unit.unit - c.args.from in
     let h : i < c.args.count = omega (arith, c.from.ensures, c.loop-unit-test.true, c.loop-unit.invariant.0) in
     gathered_other (drop c.args.from ms) c.args.count (pairs_of c.loop-unit.pairs) c.loop-unit.last i c.loop-unit.invariant.1 h
@@ -47,7 +47,7 @@ returns-in_default g c =
 
 pub returns : goal.returns
 returns g c =
-    let ms = said g.F.Flash c.args.self.now in
+    let ms = meanings_shown g.F.Flash c.args.self.now in
     let i = c.loop-unit.unit - c.args.from in
     let h : c.args.count ≤ i = omega (arith, c.from.ensures, c.loop-unit-test.false, c.loop-unit.auto.unit-end) in
     gathered_all (drop c.args.from ms) c.args.count (pairs_of c.loop-unit.pairs) c.loop-unit.last i c.loop-unit.invariant.1 h

@@ -1,4 +1,4 @@
-use Rattle.std.proofs.Common.{◌≡◌, ℕ, List, ℤ, Ok, Err, Option, Result, sym, refl, subst, rules}
+use Rattle.std.proofs.Common.{◌≡◌, ℕ, List, ℤ, Ok, Err, Option, Result, refl, rules}
 use Rattle.layout.specs.declared.meanings.Pair.{Pair}
 use Rattle.layout.specs.Held.{pairs_of}
 use Rattle.store.specs.declared.entries.Entry.{Entry}
@@ -20,7 +20,7 @@ returns-in_err-judge g c =
     let why = c.in_err-judge.field-0.0 in
     let is : c.from_residual.result ≡ Err why = search rules in
     let e : Entry = Get c.args.key c.from_residual.result in
-    let d : Does m e m' = subst (λ (r : Result (Option ℤ) Refusal). Does m (Get c.args.key r) m') (sym is) (looks_cold m m' f why c.in_err-judge.ensures.judged) in
+    let d : Does m e m' = looks_cold m m' f why (c.from_residual.result) is c.in_err-judge.ensures.judged in
     record { does = d; ledger = follows_ledger m e m' d; flash = c.judge.ensures.flash }
 
 pub returns-then-is_key : goal.returns-then-is_key

@@ -1,4 +1,4 @@
-use Rattle.std.proofs.Common.{◌≡◌, ℕ, List, Err, Result, sym, refl, subst, w16, w32, SFits, rules}
+use Rattle.std.proofs.Common.{◌≡◌, ℕ, List, Err, Result, refl, w16, w32, SFits, rules}
 use Rattle.std.proofs.lemmas.Int.{to_z-of_z}
 use Rattle.layout.specs.declared.meanings.Pair.{Pair}
 use Rattle.layout.specs.Held.{pairs_of}
@@ -23,7 +23,7 @@ returns-in_err-judge g c =
     let why = c.in_err-judge.field-0.0 in
     let is : c.from_residual.result ≡ Err why = search rules in
     let e : Entry = Pressure st up c.from_residual.result in
-    let d : Does m e m' = subst (λ (r : Result Line Refusal). Does m (Pressure st up r) m') (sym is) (looks_cold m m' f why c.in_err-judge.ensures.judged) in
+    let d : Does m e m' = looks_cold m m' f why (c.from_residual.result) is c.in_err-judge.ensures.judged in
     record { does = d; ledger = follows_ledger m e m' d; flash = c.judge.ensures.flash }
 
 pub returns : goal.returns

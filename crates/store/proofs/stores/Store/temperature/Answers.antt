@@ -23,7 +23,7 @@ returns-in_err-judge g c =
     let is : c.from_residual.result ≡ Err why = search rules in
     let same : step_numbers c.from_residual.result ≡ Err why = ap step_numbers is in
     let e : Entry = Temperature c.args.ut (step_numbers c.from_residual.result) in
-    let d : Does m e m' = subst (λ (r : Result StepNumbers Refusal). Does m (Temperature c.args.ut r) m') (sym same) (looks_cold m m' f why c.in_err-judge.ensures.judged) in
+    let d : Does m e m' = looks_cold m m' f why (step_numbers c.from_residual.result) same c.in_err-judge.ensures.judged in
     record { does = d; ledger = follows_ledger m e m' d; flash = c.judge.ensures.flash }
 
 pub returns-in_err-numbers : goal.returns-in_err-numbers

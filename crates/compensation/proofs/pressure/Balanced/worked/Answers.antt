@@ -1,7 +1,7 @@
 use Rattle.std.proofs.Common.{pos, ◌≤ℤ◌, sym, arith, w32, w64, SFits, rules}
 use Rattle.std.proofs.lemmas.Int.{ints, to_z-of_z}
 use Rattle.compensation.proofs.Judged.{limited}
-use Rattle.compensation.proofs.pressure.Weighed.worked.Goals as goal
+use Rattle.compensation.proofs.pressure.Balanced.worked.Goals as goal
 
 pub returns : goal.returns
 returns c =

@@ -2,7 +2,7 @@ use Rattle.std.proofs.Common.{pos, ◌*ℤ◌, ◌≤ℤ◌, arith, w64, SFits, 
 use Rattle.std.proofs.lemmas.Int.{ints, to_z-of_z}
 use Rattle.compensation.specs.Ranges.{Size}
 use Rattle.compensation.specs.Formulas.{p_of}
-use Rattle.compensation.proofs.pressure.Weighed.p.Goals as goal
+use Rattle.compensation.proofs.pressure.Balanced.p.Goals as goal
 
 pub returns-then-self-lt2147483648-clause-value : goal.returns-then-self-lt2147483648-clause-value
 unfolding p_of
