@@ -4,6 +4,7 @@
 use anyhow::Context;
 use flash::faults::{FlashFault, Place};
 use flash::interface::Flash;
+use flash::planned::Planned;
 use flash::units::Unit;
 use journal::reading::read_units;
 use journal::standing::Standing;

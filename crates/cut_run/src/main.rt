@@ -7,13 +7,14 @@ use anyhow::Context;
 use compensation::datasheet::{UP, UT};
 use compensation::text::{degrees, hectopascals};
 use figures::example::example_pairs;
+use flash::planned::Planned;
 use flash::units::Unit;
 use layout::catalogue::name_of;
 use layout::meanings::Pair;
 use runs::requests::Request;
 use runs::rooms::Room;
 use runs::running::make_calls;
-use simulator::{Entry as Planned, Simulator};
+use simulator::{Entry as PlannedPowerUp, Simulator};
 use std::alloc::Global;
 use store::entries::Entry;
 use store::refusals::Refusal;
@@ -42,7 +43,7 @@ fn simulator(heap: Global) -> anyhow::Result<Simulator> {
         .ok()
         .context("no simulator")?;
     for charge in CHARGES {
-        let _ = simulator.add_entry(Planned {
+        let _ = simulator.add_entry(PlannedPowerUp {
             charge,
             residue: 2,
             pattern: 0,

@@ -5,5 +5,6 @@ pub mod causes;
 pub mod faults;
 pub mod interface;
 pub mod own_faults;
+pub mod planned;
 pub mod shapes;
 pub mod units;

@@ -3,6 +3,7 @@ use crate::images::{open, three_units};
 use crate::shared::{entry, number, small};
 use flash::faults::FlashFault;
 use flash::interface::Flash;
+use flash::planned::Planned;
 use flash::units::Unit;
 use mirror::Mirror;
 use simulator::Simulator;

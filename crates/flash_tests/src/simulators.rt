@@ -2,6 +2,7 @@
 use crate::shared::{entry, number, small};
 use flash::faults::FlashFault;
 use flash::interface::Flash;
+use flash::planned::Planned;
 use flash::units::Unit;
 use simulator::{Simulator, check_shape};
 use std::test::Fail;

@@ -4,6 +4,7 @@
 use anyhow::Context;
 use flash::faults::FlashFault;
 use flash::interface::Flash;
+use flash::planned::Planned;
 use flash::units::Unit;
 use image::Image;
 use mirror::Mirror;

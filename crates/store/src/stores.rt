@@ -13,6 +13,7 @@ use layout::pairs::Pairs;
 mod calls;
 mod judging;
 mod measuring;
+mod planning;
 
 // What stands by the units is held in `standing` unless the store is cold, an open change in `change` while it is changing.
 // kept: fields beside the phase. Held in it, they would be matched for a second time, with an arm that cannot be, by the calls that only look at what

@@ -6,6 +6,7 @@ ghost use Rattle.simulator.specs.SimulatorStates.{state_of, new_simulator, with_
 use crate::shapes::{ShapeFault, check_shape};
 use crate::simulators::{Entry, Simulator};
 use arrayvec::ArrayVec;
+use flash::planned::Planned;
 use flash::units::Unit;
 
 // A table that no simulator was made on, and why.
@@ -41,9 +42,16 @@ impl Simulator {
             position: 0,
         })
     }
+}
 
-    // Adds an entry at the plan's end and tells how many there are, used ones counted; none is added where there are 16.
-    pub fn add_entry(&mut self, added: Entry) -> Option<usize>
+impl Planned for Simulator {
+    type Entry = Entry;
+
+    ghost plan = { λ s. s.plan.items };
+
+    ghost most = { 16 };
+
+    fn add_entry(&mut self, added: Entry) -> Option<usize>
         ensures room { MatchOption result (length (state_of self.old).plan ≡ 16) (λ n. (length (state_of self.old).plan < 16) × (n ≡ length (state_of self.old).plan + 1)) }
         ensures state { MatchOption result (state_of self.new ≡ state_of self.old) (λ _. state_of self.new ≡ with_entry (state_of self.old) added) }
     {
