@@ -1,0 +1,10 @@
+use Rattle.std.proofs.Common.{◌≡◌, ◌≤◌, drop}
+use Rattle.session.specs.Numbers.{unsigned_of}
+use Rattle.session.proofs.Digits.{number_after}
+use Rattle.session.proofs.numbers.unsigned_64.Given as goal
+
+abbrev pub invariant-loop-byte : goal.invariant-loop-byte
+invariant-loop-byte l = record {
+  fits : l.value ≤ 18446744073709551615;
+  same : number_after 18446744073709551615 l.value (drop l.byte-index l.word) ≡ unsigned_of 18446744073709551615 l.word;
+}

@@ -1,0 +1,7 @@
+pub mod Words
+pub mod Tokens
+pub mod Numbers
+pub mod Commands
+pub mod Answers
+pub mod Sessions
+pub mod Held
