@@ -57,6 +57,25 @@ fn mirror_writes_first_side_first(rt: HostRuntime) -> Result<(), Fail> {
     Ok(())
 }
 
+// A mirror that is on powers up both of its sides all the same, once each: 1, then 2 writes.
+#[test]
+fn mirror_that_is_on_powers_up(rt: HostRuntime) -> Result<(), Fail> {
+    let mut a = small(rt.alloc())?;
+    let mut b = small(rt.alloc())?;
+    for charge in [1, 2, 3] {
+        assert!(rt; a.add_entry(entry(charge, 2, 0)).is_some());
+        assert!(rt; b.add_entry(entry(charge, 2, 0)).is_some());
+    }
+    let mut m = Mirror::new(a, b);
+    m.power_up();
+    assert_eq!(rt; number(m.program(0, 0, 5)), 0);
+    m.power_up();
+    assert_eq!(rt; number(m.program(0, 1, 6)), 0);
+    assert_eq!(rt; number(m.program(0, 2, 7)), 0);
+    assert_eq!(rt; number(m.program(0, 3, 8)), 24);
+    Ok(())
+}
+
 #[test]
 fn mirror_of_mirrors(rt: HostRuntime) -> Result<(), Fail> {
     let a = small(rt.alloc())?;
