@@ -12,7 +12,8 @@ use journal::writers::{format_banks, write_change};
 use layout::codec::meaning;
 use layout::meanings::{Meaning, Pair};
 use layout::pairs::Pairs;
-use simulator::{Entry, Simulator};
+use flash::plans::PlanEntry;
+use simulator::Simulator;
 use std::alloc::Global;
 
 const BANKS: usize = 2;
@@ -36,7 +37,7 @@ fn planned(heap: Global, charge: u32) -> anyhow::Result<Simulator> {
         .ok()
         .context("no simulator")?;
     for charge in [PLENTY, charge] {
-        let _ = simulator.add_entry(Entry {
+        let _ = simulator.add_entry(PlanEntry {
             charge,
             residue: 2,
             pattern: 0,

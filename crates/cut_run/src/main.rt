@@ -14,7 +14,8 @@ use layout::meanings::Pair;
 use runs::requests::Request;
 use runs::rooms::Room;
 use runs::running::make_calls;
-use simulator::{Entry as PlannedPowerUp, Simulator};
+use flash::plans::PlanEntry;
+use simulator::Simulator;
 use std::alloc::Global;
 use store::entries::Entry;
 use store::refusals::Refusal;
@@ -43,7 +44,7 @@ fn simulator(heap: Global) -> anyhow::Result<Simulator> {
         .ok()
         .context("no simulator")?;
     for charge in CHARGES {
-        let _ = simulator.add_entry(PlannedPowerUp {
+        let _ = simulator.add_entry(PlanEntry {
             charge,
             residue: 2,
             pattern: 0,

@@ -13,7 +13,8 @@ use layout::pairs::Pairs;
 use runs::requests::Request;
 use runs::rooms::Room;
 use runs::running::make_calls;
-use simulator::{Entry as PowerUp, Simulator};
+use flash::plans::PlanEntry;
+use simulator::Simulator;
 use std::alloc::Global;
 use store::entries::Entry;
 use store::refusals::Refusal;
@@ -128,7 +129,7 @@ fn blank_store(heap: Global, charge: u32, left: Left) -> anyhow::Result<Store<Si
         .ok()
         .context("no simulator")?;
     for charge in [PLENTY, charge, PLENTY] {
-        let _ = simulator.add_entry(PowerUp {
+        let _ = simulator.add_entry(PlanEntry {
             charge,
             residue: left.residue,
             pattern: left.pattern,

@@ -1,8 +1,9 @@
-// What a flash is: its units, bank by bank, how many a bank has, whether it is on, its charge, and what each call does to them.
+// What a flash is: its units, bank by bank, how many a bank has, whether it is on, its charge, its plan, and what each call does to them.
 ghost use Rattle.std.specs.Prelude.{◌≡◌, ℕ, Bool, List, length};
 ghost use Rattle.flash.specs.declared.units.Unit.{Unit as Cell};
 ghost use Rattle.flash.specs.FlashState.{flash_state, WellFormed};
 ghost use Rattle.flash.specs.Calls.{Read, Program, Erase, PoweredUp};
+ghost use Rattle.flash.specs.Plans.{Plan, taking};
 
 use crate::faults::FlashFault;
 use crate::units::Unit;
@@ -23,6 +24,12 @@ pub trait Flash {
     // How many writes it will still complete.
     ghost charge: { Self → ℕ };
 
+    // The plan of its power-ups, an empty one of a kind that follows none.
+    ghost plan: { Self → Plan };
+
+    // What a power-up of just this kind makes of a flash: before it, and after it.
+    ghost powered: { Self → Self → Type 0 };
+
     // How many banks there are, which never changes.
     fn banks(&self) -> usize
         ensures count { result ≡ length (units self.now) };
@@ -38,15 +45,19 @@ pub trait Flash {
 
     // Writes a value into a blank unit. Refused as a read, then with 23 when the unit is not blank, then cut with 24 at charge 0.
     fn program(&mut self, bank: usize, unit: usize, value: u64) -> Result<(), Self::Fault>
-        ensures programs { Program Self.Fault.FlashFault (flash_state (units self.old) (width self.old) (power self.old) (charge self.old)) bank unit value (flash_state (units self.new) (width self.new) (power self.new) (charge self.new)) result };
+        ensures programs { Program Self.Fault.FlashFault (flash_state (units self.old) (width self.old) (power self.old) (charge self.old)) bank unit value (flash_state (units self.new) (width self.new) (power self.new) (charge self.new)) result }
+        ensures plan { plan self.new ≡ plan self.old };
 
     // Makes all units of a bank blank. Refused as a read, then cut with 24 at charge 0.
     fn erase(&mut self, bank: usize) -> Result<(), Self::Fault>
-        ensures erases { Erase Self.Fault.FlashFault (flash_state (units self.old) (width self.old) (power self.old) (charge self.old)) bank (flash_state (units self.new) (width self.new) (power self.new) (charge self.new)) result };
+        ensures erases { Erase Self.Fault.FlashFault (flash_state (units self.old) (width self.old) (power self.old) (charge self.old)) bank (flash_state (units self.new) (width self.new) (power self.new) (charge self.new)) result }
+        ensures plan { plan self.new ≡ plan self.old };
 
-    // Turns the flash on, with a charge of the implementation's choice; keeps all units; never refused.
+    // Turns the flash on, with a charge of the implementation's choice, as its kind has it; keeps all units; takes an entry of the plan; never refused.
     fn power_up(&mut self)
-        ensures powers { PoweredUp (flash_state (units self.old) (width self.old) (power self.old) (charge self.old)) (flash_state (units self.new) (width self.new) (power self.new) (charge self.new)) };
+        ensures powers { PoweredUp (flash_state (units self.old) (width self.old) (power self.old) (charge self.old)) (flash_state (units self.new) (width self.new) (power self.new) (charge self.new)) }
+        ensures powered { powered self.old self.new }
+        ensures plan { plan self.new ≡ taking (plan self.old) };
 
     // Every bank has `width` units, there are at most 4096, the charge fits 32 bits and every value 64.
     ghost formed: { (f : Self) → WellFormed (flash_state (units f) (width f) (power f) (charge f)) };

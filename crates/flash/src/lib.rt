@@ -6,5 +6,6 @@ pub mod faults;
 pub mod interface;
 pub mod own_faults;
 pub mod planned;
+pub mod plans;
 pub mod shapes;
 pub mod units;

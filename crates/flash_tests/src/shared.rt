@@ -1,7 +1,8 @@
 // What the tests share.
 use flash::faults::FlashFault;
 use flash::units::Unit;
-use simulator::{Entry, Simulator};
+use flash::plans::PlanEntry;
+use simulator::Simulator;
 use std::alloc::Global;
 use std::test::Fail;
 
@@ -11,8 +12,8 @@ pub(crate) fn small(heap: Global) -> Result<Simulator, Fail> {
     Ok(Simulator::new(2, 4, table).ok().ok_or("shape")?)
 }
 
-pub(crate) fn entry(charge: u32, residue: u8, pattern: u64) -> Entry {
-    Entry {
+pub(crate) fn entry(charge: u32, residue: u8, pattern: u64) -> PlanEntry {
+    PlanEntry {
         charge,
         residue,
         pattern,

@@ -13,8 +13,8 @@ use Rattle.layout.specs.Codec.{record_value, commit_value, decoded}
 use Rattle.layout.proofs.Decoding.{record_read, commit_read}
 use Rattle.layout.proofs.WellFormed.{well_formed_parts}
 use Rattle.journal.specs.Reading.{meanings, Progress, steps, Opening, opening, closing, end_of, Banks, bank, Reading, reading_in, reads}
-use Rattle.journal.specs.Writes.{Leaves, AllReady}
 use Rattle.journal.specs.Commit.{appending, other, Change, Holds}
+use Rattle.journal.proofs.Charges.{Leaves, AllReady}
 use Rattle.journal.proofs.Growth.{grown, steps_append, steps_noise, steps_pairs, steps_change}
 use Rattle.journal.proofs.Programs.{bank_same, bank_other, leaves_all, length_programs, meanings_append, meanings_blank, meanings_programmed, Room, SetTo, programs_ready, programs_done, programs_cut}
 use Rattle.journal.proofs.End.{Split, split, end_append, end_programmed}

@@ -8,9 +8,10 @@ use Rattle.flash.proofs.Refusals.{program_refusal_open, erase_refusal_open, char
 use Rattle.layout.specs.declared.meanings.Pair.{Pair}
 use Rattle.layout.specs.PairLists.{well_formed}
 use Rattle.journal.specs.Reading.{Banks, bank, Reading}
-use Rattle.journal.specs.Writes.{Write, program, erase, Ready, done, Cut, AllReady, Leaves, write_refusal, write_bank, write_unit, completed, StoppedAt, Performed}
-use Rattle.journal.specs.Commit.{commit_writes, writes_needed, committed, formatting, formatted, Roomy, WholeOrAbsent}
+use Rattle.journal.specs.Writes.{Write, program, erase, done, Cut, write_refusal, write_bank, write_unit, completed, StoppedAt, Performed}
+use Rattle.journal.specs.Commit.{commit_writes, writes_needed, committed, formatting, formatted}
 use Rattle.journal.specs.Outcomes.{Usable, Finished, CutShort, CutCommit, Committable, WholeOrAbsentAfter, EmptyAfter}
+use Rattle.journal.proofs.Charges.{Ready, AllReady, Leaves, Roomy, WholeOrAbsent}
 use Rattle.journal.proofs.Theorem.{needed, whole_or_absent}
 use Rattle.journal.proofs.Format.{format_ready, format_done}
 

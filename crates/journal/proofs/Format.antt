@@ -7,8 +7,9 @@ use Rattle.layout.specs.declared.meanings.Meaning.TheVariants.{Noise}
 use Rattle.layout.specs.Codec.{header_value}
 use Rattle.layout.proofs.Decoding.{header_read}
 use Rattle.journal.specs.Reading.{meanings, Opening, opening, end_of, Banks, bank, reads}
-use Rattle.journal.specs.Writes.{program, erase, done, Leaves, AllReady}
+use Rattle.journal.specs.Writes.{program, erase, done}
 use Rattle.journal.specs.Commit.{formatting, formatted}
+use Rattle.journal.proofs.Charges.{Leaves, AllReady}
 use Rattle.journal.proofs.Growth.{steps_noise}
 use Rattle.journal.proofs.Programs.{bank_same, bank_other, leaves_all, meanings_blank}
 use Rattle.journal.proofs.End.{end_blank}

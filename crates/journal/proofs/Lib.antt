@@ -1,3 +1,4 @@
+pub mod Charges
 pub mod Growth
 pub mod Sound
 pub mod Faded

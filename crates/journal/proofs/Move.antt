@@ -13,8 +13,9 @@ use Rattle.layout.specs.PairLists.{rising}
 use Rattle.layout.specs.Codec.{record_value, header_value}
 use Rattle.layout.proofs.Decoding.{header_read}
 use Rattle.journal.specs.Reading.{meanings, leading, lawful, Opening, opening, end_of, Banks, bank, Reading, reading_in, reads}
-use Rattle.journal.specs.Writes.{program, erase, done, Leaves, AllReady}
+use Rattle.journal.specs.Writes.{program, erase, done}
 use Rattle.journal.specs.Commit.{programs, moving, other, Holds}
+use Rattle.journal.proofs.Charges.{Leaves, AllReady}
 use Rattle.journal.proofs.Growth.{leading_noise, steps_noise, steps_number}
 use Rattle.journal.proofs.Sound.{Good}
 use Rattle.journal.proofs.Faded.{faded, was}

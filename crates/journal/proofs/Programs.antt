@@ -7,8 +7,9 @@ use Rattle.flash.specs.Calls.{ProgramResidue}
 use Rattle.layout.specs.declared.meanings.Meaning.TheVariants.{Noise}
 use Rattle.layout.specs.Codec.{decoded, meaning_of}
 use Rattle.journal.specs.Reading.{meanings, Banks, bank}
-use Rattle.journal.specs.Writes.{Write, program, done, AllReady, Leaves}
+use Rattle.journal.specs.Writes.{Write, program, done}
 use Rattle.journal.specs.Commit.{programs}
+use Rattle.journal.proofs.Charges.{AllReady, Leaves}
 
 -- banks after a change of one
 pub bank_same : (bs : Banks) (b : ℕ) (us : List Cell) → b < length bs → bank b (set bs b us) ≡ us

@@ -7,8 +7,9 @@ use Rattle.layout.specs.PairLists.{well_formed, merged}
 use Rattle.layout.specs.Codec.{record_value, commit_value, header_value}
 use Rattle.layout.proofs.WellFormed.{well_formed_parts, well_formed_merged, well_formed_few}
 use Rattle.journal.specs.Reading.{Banks, bank, Reading, reads}
-use Rattle.journal.specs.Writes.{Write, program, AllReady, Leaves}
-use Rattle.journal.specs.Commit.{records, appending, moving, other, fits, commit_writes, writes_needed, Roomy, Change, Holds, WholeOrAbsent}
+use Rattle.journal.specs.Writes.{Write, program}
+use Rattle.journal.specs.Commit.{records, appending, moving, other, fits, commit_writes, writes_needed, Change, Holds}
+use Rattle.journal.proofs.Charges.{AllReady, Leaves, Roomy, WholeOrAbsent}
 use Rattle.journal.proofs.Sound.{Good, good_closing}
 use Rattle.journal.proofs.Programs.{length_programs}
 use Rattle.journal.proofs.Active.{reads_found}

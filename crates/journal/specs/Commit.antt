@@ -1,10 +1,10 @@
--- The writes of a commit and of a format, and what a power cut in them leaves.
-use Rattle.std.specs.Prelude.{◌≡◌, ℕ, suc, ◌+◌, ◌-◌, ◌<◌, ◌≤◌, Bool, true, cond, ◌⊎◌, List, [], ◌∷◌, ◌++◌, map, length, Some, nat_le}
+-- The writes of a commit and of a format, and what the units read as when they are done.
+use Rattle.std.specs.Prelude.{◌≡◌, ℕ, suc, ◌+◌, ◌-◌, ◌≤◌, Bool, true, cond, List, [], ◌∷◌, ◌++◌, map, length, Some, nat_le}
 use Rattle.layout.specs.declared.meanings.Pair.{Pair}
 use Rattle.layout.specs.PairLists.{well_formed, merged}
 use Rattle.layout.specs.Codec.{record_value, commit_value, header_value}
-use Rattle.journal.specs.Reading.{Banks, bank, Reading, reads}
-use Rattle.journal.specs.Writes.{Write, program, erase, AllReady, Leaves}
+use Rattle.journal.specs.Reading.{Banks, Reading, reads}
+use Rattle.journal.specs.Writes.{Write, program, erase}
 
 -- one value after another, from unit u of bank b on
 abbrev pub programs : ℕ → ℕ → List ℕ → List Write
@@ -54,13 +54,6 @@ formatting = erase 0 ∷ erase 1 ∷ program 0 0 (header_value 0 0) ∷ []
 abbrev pub formatted : Reading
 formatted = record { active = 0; pairs = []; number = 0; end = 1 }
 
--- at least two banks, the first two of `width` units, at least 64
-pub record Roomy (width : ℕ) (bs : Banks) : Type 0 where
-  pub two : 2 ≤ length bs
-  pub first : length (bank 0 bs) ≡ width
-  pub second : length (bank 1 bs) ≡ width
-  pub enough : 64 ≤ width
-
 -- a list of pairs that may be committed
 pub record Change (change : List Pair) : Type 0 where
   pub formed : well_formed change ≡ true
@@ -72,18 +65,3 @@ pub record Holds (bs : Banks) (pairs : List Pair) (number : ℕ) : Type 0 where
   pub read : reads bs ≡ Some found
   pub same_pairs : found.pairs ≡ pairs
   pub same_number : found.number ≡ number
-
--- What the writes of a commit leave under any charge and any residue, on units that read as r.
-pub record WholeOrAbsent (width : ℕ) (bs : Banks) (r : Reading) (change : List Pair) (number : ℕ) : Type 0 where
-  -- no write is refused for its place
-  pub ready : AllReady width (commit_writes width r change number) bs
-  -- with charge for all writes the change is read, whole
-  pub whole :
-      (charge : ℕ) (after : Banks) → Leaves width charge (commit_writes width r change number) bs after →
-      writes_needed width r change ≤ charge → reads after ≡ Some (committed width r change number)
-  -- with less charge the units are read as before, or, where only the last write was cut, with the whole change
-  pub cut :
-      (charge : ℕ) (after : Banks) → Leaves width charge (commit_writes width r change number) bs after →
-      charge < writes_needed width r change →
-      Holds after r.pairs r.number
-      ⊎ ((suc charge ≡ writes_needed width r change) × Holds after (merged r.pairs change) (r.number + 1))

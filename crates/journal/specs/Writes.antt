@@ -1,5 +1,5 @@
--- Writes to the banks of a flash, and what a charge completes of a list of writes.
-use Rattle.std.specs.Prelude.{◌≡◌, ℕ, zero, suc, ◌-◌, ◌<◌, false, ◌⊎◌, List, [], ◌∷◌, length, replicate, Some, None, Option, Result, MatchResult, slice_index_or, slice_set}
+-- Writes to the banks of a flash: what each makes of the units, and what comes of a list of them.
+use Rattle.std.specs.Prelude.{◌≡◌, ℕ, ◌-◌, ◌<◌, false, ◌⊎◌, List, [], ◌∷◌, replicate, Some, None, Option, Result, MatchResult, slice_set}
 use Rattle.std.specs.List.{AllZip}
 use Rattle.flash.specs.declared.units.Unit.{Unit as Cell}
 use Rattle.flash.specs.declared.units.Unit.TheVariants.{Blank, Programmed}
@@ -12,11 +12,6 @@ use Rattle.journal.specs.Reading.{Banks, bank}
 pub data Write : Type 0 where
   program : ℕ → ℕ → ℕ → Write
   erase : ℕ → Write
-
--- in banks of `width` units: the place exists, and a unit to program is blank
-abbrev pub Ready : ℕ → Write → Banks → Type 0
-Ready width (program b u v) bs = (b < length bs) × (u < width) × (slice_index_or (bank b bs) u Blank ≡ Blank)
-Ready width (erase b) bs = b < length bs
 
 -- the units after a write that completed
 abbrev pub done : ℕ → Write → Banks → Banks
@@ -39,17 +34,6 @@ pub record EraseLeft (b : ℕ) (bs after : Banks) : Type 0 where
 abbrev pub Cut : Write → Banks → Banks → Type 0
 Cut (program b u v) bs after = ProgramLeft b u v bs after
 Cut (erase b) bs after = EraseLeft b bs after
-
--- each write is ready when those before it are done
-abbrev pub AllReady : ℕ → List Write → Banks → Type 0
-AllReady width [] bs = Unit {0}
-AllReady width (w ∷ ws) bs = Ready width w bs × AllReady width ws (done width w bs)
-
--- the units after may be what the writes leave under a charge: the writes that it completes are done, and the next is cut
-abbrev pub Leaves : ℕ → ℕ → List Write → Banks → Banks → Type 0
-Leaves width charge [] bs after = after ≡ bs
-Leaves width zero (w ∷ ws) bs after = Cut w bs after
-Leaves width (suc charge) (w ∷ ws) bs after = Leaves width charge ws (done width w bs) after
 
 -- the number that the flash refuses a write with, 0 where it completes it
 abbrev pub write_refusal : FlashState → Write → ℕ

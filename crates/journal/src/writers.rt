@@ -24,6 +24,7 @@ fn program_records<F: Flash>(
 ) -> Result<usize, F::Fault>
     ensures writes { Performed F.Fault.FlashFault (records bank from (pairs_of pairs.now)) (seen F.Flash flash.old) (seen F.Flash flash.new) result }
     ensures next { IfOk result (λ at. at ≡ from + length (pairs_of pairs.now)) }
+    ensures plan { F.Flash.plan flash.new ≡ F.Flash.plan flash.old }
 {
     for (i, pair) in pairs.iter().enumerate() {
         flash.program(bank, from + i, encode_record(pair))?;
@@ -38,7 +39,8 @@ fn append<F: Flash>(
     change: &Pairs,
     number: u32,
 ) -> Result<(), F::Fault>
-    ensures { Performed F.Fault.FlashFault (appending standing.now.bank standing.now.end (pairs_of change.now) number) (seen F.Flash flash.old) (seen F.Flash flash.new) result }
+    ensures writes { Performed F.Fault.FlashFault (appending standing.now.bank standing.now.end (pairs_of change.now) number) (seen F.Flash flash.old) (seen F.Flash flash.new) result }
+    ensures plan { F.Flash.plan flash.new ≡ F.Flash.plan flash.old }
 {
     let at = program_records(flash, standing.bank, standing.end, change)?;
     // kept: `as`, proved to fit; `try_from` would answer an error that cannot come.
@@ -47,7 +49,8 @@ fn append<F: Flash>(
 
 // Writes pairs into a bank, which it erases before: their records from unit 1 on, and last the header.
 fn rewrite<F: Flash>(flash: &mut F, bank: usize, pairs: &Pairs, number: u32) -> Result<(), F::Fault>
-    ensures { Performed F.Fault.FlashFault (moving bank (pairs_of pairs.now) number) (seen F.Flash flash.old) (seen F.Flash flash.new) result }
+    ensures writes { Performed F.Fault.FlashFault (moving bank (pairs_of pairs.now) number) (seen F.Flash flash.old) (seen F.Flash flash.new) result }
+    ensures plan { F.Flash.plan flash.new ≡ F.Flash.plan flash.old }
 {
     flash.erase(bank)?;
     program_records(flash, bank, 1, pairs)?;
@@ -59,6 +62,7 @@ fn rewrite<F: Flash>(flash: &mut F, bank: usize, pairs: &Pairs, number: u32) -> 
 pub fn format_banks<F: Flash>(flash: &mut F) -> Result<(), F::Fault>
     ensures writes { Performed F.Fault.FlashFault formatting (seen F.Flash flash.old) (seen F.Flash flash.new) result }
     ensures empty { EmptyAfter F.Fault.FlashFault (seen F.Flash flash.old) (seen F.Flash flash.new) result }
+    ensures plan { F.Flash.plan flash.new ≡ F.Flash.plan flash.old }
 {
     flash.erase(0)?;
     flash.erase(1)?;
@@ -77,6 +81,7 @@ pub fn write_change<F: Flash>(
 ) -> Result<(), F::Fault>
     ensures writes { Performed F.Fault.FlashFault (commit_writes (F.Flash.width flash.old) (reading_of standing.now) (pairs_of change.now) number) (seen F.Flash flash.old) (seen F.Flash flash.new) result }
     ensures whole_or_absent { WholeOrAbsentAfter F.Fault.FlashFault (seen F.Flash flash.old) (reading_of standing.now) (pairs_of change.now) number (seen F.Flash flash.new) result }
+    ensures plan { F.Flash.plan flash.new ≡ F.Flash.plan flash.old }
 {
     if is_room(flash.units_per_bank(), standing.end, change.len()) {
         append(flash, standing, change, number)

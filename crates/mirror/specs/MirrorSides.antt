@@ -82,3 +82,18 @@ EraseSides p q a b a' b' k (Ok x) = EraseBoth a b a' b' k
 EraseSides p q a b a' b' k (Err (Own c)) = OwnRefusal c (erase_refusal (mirrored a b) k) k None a b a' b'
 EraseSides p q a b a' b' k (Err (First at e)) = EraseFirst p a b a' b' k at e
 EraseSides p q a b a' b' k (Err (Second at e)) = EraseSecond q a b a' b' k at e
+
+-- A side that is not called is left just as it is, with all that its kind holds besides what is seen of it: both where the mirror itself refuses,
+-- and of a program the second where the first refused.
+abbrev pub ProgramLeaves : {A B E F : Type 0} → (a : A) (b : B) (a' : A) (b' : B) → Result (Unit {0}) (MirrorFault E F) → Type 0
+ProgramLeaves a b a' b' (Ok x) = Unit {0}
+ProgramLeaves a b a' b' (Err (Own c)) = (a' ≡ a) × (b' ≡ b)
+ProgramLeaves a b a' b' (Err (First at e)) = b' ≡ b
+ProgramLeaves a b a' b' (Err (Second at e)) = Unit {0}
+
+-- of an erase the first where the second refused
+abbrev pub EraseLeaves : {A B E F : Type 0} → (a : A) (b : B) (a' : A) (b' : B) → Result (Unit {0}) (MirrorFault E F) → Type 0
+EraseLeaves a b a' b' (Ok x) = Unit {0}
+EraseLeaves a b a' b' (Err (Own c)) = (a' ≡ a) × (b' ≡ b)
+EraseLeaves a b a' b' (Err (First at e)) = Unit {0}
+EraseLeaves a b a' b' (Err (Second at e)) = a' ≡ a

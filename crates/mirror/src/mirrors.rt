@@ -3,9 +3,10 @@ ghost use Rattle.std.specs.Prelude.{◌≡◌, min, ◌&&◌};
 ghost use Rattle.flash.specs.FlashState.{flash_state};
 ghost use Rattle.flash.specs.Seen.{seen};
 ghost use Rattle.flash.specs.Calls.{Read, Program, Erase, PoweredUp};
+ghost use Rattle.flash.specs.Plans.{no_plan, taking};
 ghost use Rattle.mirror.specs.Mirrored.{mixed, mixed_units, mirrored};
 ghost use Rattle.mirror.specs.Formed.{mirrored_formed};
-ghost use Rattle.mirror.specs.MirrorSides.{mirror_fault, ReadSides, ProgramSides, EraseSides, SideCuts};
+ghost use Rattle.mirror.specs.MirrorSides.{mirror_fault, ReadSides, ProgramSides, EraseSides, SideCuts, ProgramLeaves, EraseLeaves};
 
 use crate::mirror_faults::MirrorFault;
 use flash::causes::{Cause, Why};
@@ -65,7 +66,9 @@ impl<A: Flash, B: Flash> Mirror<A, B> {
         unit: usize,
         value: u64,
     ) -> Result<(), MirrorFault<A::Fault, B::Fault>>
-        ensures { ProgramSides A.Fault.FlashFault B.Fault.FlashFault (seen A.Flash self.old.first) (seen B.Flash self.old.second) (seen A.Flash self.new.first) (seen B.Flash self.new.second) bank unit value result }
+        ensures sides { ProgramSides A.Fault.FlashFault B.Fault.FlashFault (seen A.Flash self.old.first) (seen B.Flash self.old.second) (seen A.Flash self.new.first) (seen B.Flash self.new.second) bank unit value result }
+        ensures left { ProgramLeaves self.old.first self.old.second self.new.first self.new.second result }
+        ensures plans { (A.Flash.plan self.new.first ≡ A.Flash.plan self.old.first) × (B.Flash.plan self.new.second ≡ B.Flash.plan self.old.second) }
     {
         let place = (bank, Some(unit));
         self.first
@@ -78,7 +81,9 @@ impl<A: Flash, B: Flash> Mirror<A, B> {
 
     // Erases a bank of the second side, and of the first only if that completed.
     fn erase_sides(&mut self, bank: usize) -> Result<(), MirrorFault<A::Fault, B::Fault>>
-        ensures { EraseSides A.Fault.FlashFault B.Fault.FlashFault (seen A.Flash self.old.first) (seen B.Flash self.old.second) (seen A.Flash self.new.first) (seen B.Flash self.new.second) bank result }
+        ensures sides { EraseSides A.Fault.FlashFault B.Fault.FlashFault (seen A.Flash self.old.first) (seen B.Flash self.old.second) (seen A.Flash self.new.first) (seen B.Flash self.new.second) bank result }
+        ensures left { EraseLeaves self.old.first self.old.second self.new.first self.new.second result }
+        ensures plans { (A.Flash.plan self.new.first ≡ A.Flash.plan self.old.first) × (B.Flash.plan self.new.second ≡ B.Flash.plan self.old.second) }
     {
         let place = (bank, None);
         self.second
@@ -100,6 +105,11 @@ impl<A: Flash, B: Flash> Flash for Mirror<A, B> {
     ghost power = { λ m. A.Flash.power m.first && B.Flash.power m.second };
 
     ghost charge = { λ m. min (A.Flash.charge m.first) (B.Flash.charge m.second) };
+
+    // It follows no plan of its own; those of its sides go on.
+    ghost plan = { λ m. no_plan };
+
+    ghost powered = { λ m m'. A.Flash.powered m.first m'.first × B.Flash.powered m.second m'.second };
 
     ghost formed = { λ m. mirrored_formed (flash_state (A.units m.first) (A.width m.first) (A.power m.first) (A.charge m.first)) (flash_state (B.units m.second) (B.width m.second) (B.power m.second) (B.charge m.second)) (A.formed m.first) (B.formed m.second) };
 
@@ -145,6 +155,8 @@ impl<A: Flash, B: Flash> Flash for Mirror<A, B> {
         ensures programs { Program (mirror_fault A.Fault.FlashFault B.Fault.FlashFault) (mirrored (seen A.Flash self.old.first) (seen B.Flash self.old.second)) bank unit value (mirrored (seen A.Flash self.new.first) (seen B.Flash self.new.second)) result }
         ensures sides { ProgramSides A.Fault.FlashFault B.Fault.FlashFault (seen A.Flash self.old.first) (seen B.Flash self.old.second) (seen A.Flash self.new.first) (seen B.Flash self.new.second) bank unit value result }
         ensures cuts { SideCuts A.Fault.FlashFault B.Fault.FlashFault result }
+        ensures left { ProgramLeaves self.old.first self.old.second self.new.first self.new.second result }
+        ensures plans { (A.Flash.plan self.new.first ≡ A.Flash.plan self.old.first) × (B.Flash.plan self.new.second ≡ B.Flash.plan self.old.second) }
     {
         match self.read(bank, unit)? {
             Unit::Blank => self.program_sides(bank, unit, value),
@@ -157,6 +169,8 @@ impl<A: Flash, B: Flash> Flash for Mirror<A, B> {
         ensures erases { Erase (mirror_fault A.Fault.FlashFault B.Fault.FlashFault) (mirrored (seen A.Flash self.old.first) (seen B.Flash self.old.second)) bank (mirrored (seen A.Flash self.new.first) (seen B.Flash self.new.second)) result }
         ensures sides { EraseSides A.Fault.FlashFault B.Fault.FlashFault (seen A.Flash self.old.first) (seen B.Flash self.old.second) (seen A.Flash self.new.first) (seen B.Flash self.new.second) bank result }
         ensures cuts { SideCuts A.Fault.FlashFault B.Fault.FlashFault result }
+        ensures left { EraseLeaves self.old.first self.old.second self.new.first self.new.second result }
+        ensures plans { (A.Flash.plan self.new.first ≡ A.Flash.plan self.old.first) × (B.Flash.plan self.new.second ≡ B.Flash.plan self.old.second) }
     {
         if !is_on(&self.first) || !is_on(&self.second) {
             return Err(MirrorFault::Own(Cause::new(Why::Off, bank, None)));
@@ -169,8 +183,10 @@ impl<A: Flash, B: Flash> Flash for Mirror<A, B> {
 
     fn power_up(&mut self)
         ensures powers { PoweredUp (mirrored (seen A.Flash self.old.first) (seen B.Flash self.old.second)) (mirrored (seen A.Flash self.new.first) (seen B.Flash self.new.second)) }
+        ensures powered { A.Flash.powered self.old.first self.new.first × B.Flash.powered self.old.second self.new.second }
         ensures first { PoweredUp (seen A.Flash self.old.first) (seen A.Flash self.new.first) }
         ensures second { PoweredUp (seen B.Flash self.old.second) (seen B.Flash self.new.second) }
+        ensures plans { (A.Flash.plan self.new.first ≡ taking (A.Flash.plan self.old.first)) × (B.Flash.plan self.new.second ≡ taking (B.Flash.plan self.old.second)) }
     {
         self.first.power_up();
         self.second.power_up();

@@ -8,7 +8,8 @@ use flash::planned::Planned;
 use flash::units::Unit;
 use image::Image;
 use mirror::Mirror;
-use simulator::{Entry, Simulator};
+use flash::plans::PlanEntry;
+use simulator::Simulator;
 use std::alloc::Global;
 
 // One bank of four blank units: the mark, the version, one bank, four units, charge 0, a supply of 9 writes, off.
@@ -29,7 +30,7 @@ fn short_simulator(heap: Global) -> anyhow::Result<Simulator> {
     let mut simulator = Simulator::new(1, UNITS, table)
         .ok()
         .context("no simulator")?;
-    let _ = simulator.add_entry(Entry {
+    let _ = simulator.add_entry(PlanEntry {
         charge: 2,
         residue: 2,
         pattern: 0,

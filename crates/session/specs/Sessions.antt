@@ -1,15 +1,17 @@
 -- A session at one moment, and what each command makes of it.
-use Rattle.std.specs.Prelude.{◌≡◌, ℕ, List, ℤ, Some, None, Ok, Err, Option, Result}
+use Rattle.std.specs.Prelude.{◌≡◌, ℕ, cond, ℤ, Some, None, Ok, Err, Option, Result}
 use Rattle.std.specs.Option.{option_map_or}
-use Rattle.flash.specs.Plans.{Added}
-use Rattle.simulator.specs.declared.simulators.Entry.{Entry as PowerUp}
+use Rattle.flash.specs.FlashState.{FlashState}
+use Rattle.flash.specs.Plans.{Plan as Entries, Added, taking}
+use Rattle.simulator.specs.SimulatorStates.{next_entry}
 use Rattle.store.specs.declared.entries.Entry.TheVariants.{Recover as recovered, Begin as begun, Put as did_put, Commit as committed, Abandon as abandoned, Get as got, Temperature as took_temperature, Pressure as took_pressure}
 use Rattle.store.specs.declared.refusals.Refusal.{Refusal}
 use Rattle.store.specs.declared.refusals.Refusal.TheVariants.{WriteStopped as stopped}
 use Rattle.store.specs.declared.steps.Line.{Line as Reading}
 use Rattle.store.specs.declared.steps.StepNumbers.{StepNumbers}
 use Rattle.store.specs.Moments.{Moment}
-use Rattle.store.specs.Calls.{Does, Formats}
+use Rattle.store.specs.Calls.{If, Does, Formats, written}
+use Rattle.store.specs.Stops.{is_roomy, FormatWrites}
 use Rattle.store.specs.Refusals.{refusal_number}
 use Rattle.session.specs.declared.answers.Answer.{Answer}
 use Rattle.session.specs.declared.answers.Answer.TheVariants.{Done, Number, Value, Temperature as Degrees, Line, Refused, WriteStopped}
@@ -19,7 +21,7 @@ use Rattle.session.specs.declared.commands.Command.TheVariants.{Plan, Format, Re
 -- the store, the simulator's plan, and what is held: the ticket of a change by its number, a step by its numbers
 pub record Session : Type 0 where
   pub store : Moment
-  pub plan : List PowerUp
+  pub plan : Entries
   pub ticket : Option ℕ
   pub step : Option StepNumbers
 
@@ -73,17 +75,38 @@ PressedWith None s up a s' = Same s a s'
 PressedWith (Some st) s up a s' =
     (r : Result Reading Refusal) × Does s.store (took_pressure st up r) s'.store × (a ≡ answer_of line_answer r) × (s'.plan ≡ s.plan) × (s'.ticket ≡ s.ticket) × (s'.step ≡ None)
 
+-- ---- power-ups
+
+-- a recover or a format powers up where the flash is large enough, which takes the next entry of the plan
+abbrev pub plan_after : Moment → Entries → Entries
+plan_after m p = cond (is_roomy m.flash) (taking p) p
+
+-- a recover leaves the charge of the entry that it takes
+abbrev pub RecoveredWith : Moment → Entries → Moment → Type 0
+RecoveredWith m p m' = If (is_roomy m.flash) (m'.flash.charge ≡ (next_entry p).charge) (Unit {0})
+
+-- a format makes its writes with the charge of the entry that it takes
+pub record FormattedWith (p : Entries) (r : Result ℕ Refusal) (s' : FlashState) : Type 0 where
+  pub powered : FlashState
+  pub charge : powered.charge ≡ (next_entry p).charge
+  pub made : Result (Unit {0}) Refusal
+  pub run : FormatWrites powered made s'
+  pub answer : r ≡ written 0 made
+
+abbrev pub FormatsWith : Moment → Entries → Result ℕ Refusal → Moment → Type 0
+FormatsWith m p r m' = If (is_roomy m.flash) (FormattedWith p r m'.flash) (Unit {0})
+
 -- what a command does: it makes the store's call that it stands for, and answers what that answers
 abbrev pub Carried : Session → Command → Answer → Session → Type 0
 Carried s (Plan charge residue pattern) a s' =
     (n : Option ℕ) × Added 16 s.plan (record { charge = charge; residue = residue; pattern = pattern }) n s'.plan
     × (a ≡ option_map_or Number n unknown) × (s'.store ≡ s.store) × (s'.ticket ≡ s.ticket) × (s'.step ≡ s.step)
 Carried s Format a s' =
-    (m : Moment) × LetGo s.ticket s.store m × (r : Result ℕ Refusal) × Formats m r s'.store
-    × (a ≡ answer_of Number r) × (s'.ticket ≡ None) × (s'.step ≡ s.step)
+    (m : Moment) × LetGo s.ticket s.store m × (r : Result ℕ Refusal) × Formats m r s'.store × FormatsWith m s.plan r s'.store
+    × (a ≡ answer_of Number r) × (s'.plan ≡ plan_after m s.plan) × (s'.ticket ≡ None) × (s'.step ≡ s.step)
 Carried s Recover a s' =
-    (m : Moment) × LetGo s.ticket s.store m × (r : Result ℕ Refusal) × Does m (recovered r) s'.store
-    × (a ≡ answer_of Number r) × (s'.ticket ≡ None) × (s'.step ≡ s.step)
+    (m : Moment) × LetGo s.ticket s.store m × (r : Result ℕ Refusal) × Does m (recovered r) s'.store × RecoveredWith m s.plan s'.store
+    × (a ≡ answer_of Number r) × (s'.plan ≡ plan_after m s.plan) × (s'.ticket ≡ None) × (s'.step ≡ s.step)
 Carried s Begin a s' =
     (r : Result ℕ Refusal) × (m : Moment) × Does s.store (begun r) m × Replaced r s.ticket m s'.store
     × (a ≡ answer_of Number r) × (s'.plan ≡ s.plan) × (s'.ticket ≡ held_after r s.ticket) × (s'.step ≡ s.step)
@@ -93,7 +116,7 @@ Carried s (Put key value) a s' =
     (Same s a s')
 Carried s Commit a s' =
     WithTicket s.ticket
-    (λ t. (r : Result ℕ Refusal) × Does s.store (committed t r) s'.store × (a ≡ answer_of Number r) × (s'.ticket ≡ None) × (s'.step ≡ s.step))
+    (λ t. (r : Result ℕ Refusal) × Does s.store (committed t r) s'.store × (a ≡ answer_of Number r) × (s'.plan ≡ s.plan) × (s'.ticket ≡ None) × (s'.step ≡ s.step))
     (Same s a s')
 Carried s Abandon a s' =
     WithTicket s.ticket

@@ -4,13 +4,15 @@ ghost use Rattle.session.specs.declared.answers.Answer.TheVariants.{Number};
 ghost use Rattle.session.specs.declared.commands.Command.TheVariants.{Plan, Format, Recover, Begin, Put, Commit, Abandon, Get, Temperature, Pressure};
 ghost use Rattle.session.specs.Commands.{command_of as command_in_line};
 ghost use Rattle.session.specs.Sessions.{Answered, Carried, LetGo, answer_of, refused};
+ghost use Rattle.simulator.specs.SimulatorStates.{state_of};
 ghost use Rattle.store.specs.Moments.{moment};
 ghost use Rattle.session.specs.Held.{session};
 
 use crate::answers::Answer;
 use crate::commands::{Command, command_of};
 use flash::interface::Flash;
-use simulator::{Entry, Simulator};
+use flash::plans::PlanEntry;
+use simulator::Simulator;
 use store::refusals::Refusal;
 use store::steps::Step;
 use store::stores::Store;
@@ -51,7 +53,7 @@ impl Session {
     // A session on a store, with no change and no step held.
     pub fn new(store: Store<Simulator>) -> Session
         ensures store { (session result).store ≡ moment ⟦<Simulator as Flash>⟧ store }
-        ensures plan { (session result).plan ≡ store.flash.plan.items }
+        ensures plan { (session result).plan ≡ (state_of store.flash).plan }
         ensures ticket { (session result).ticket ≡ None }
         ensures step { (session result).step ≡ None }
     {
@@ -66,6 +68,7 @@ impl Session {
     fn let_go(&mut self)
         ensures abandoned { LetGo (session self.old).ticket (session self.old).store (session self.new).store }
         ensures held { (session self.new).ticket ≡ None }
+        ensures plan { (session self.new).plan ≡ (session self.old).plan }
         ensures step { (session self.new).step ≡ (session self.old).step }
     {
         if let Some(ticket) = self.ticket.take() {
@@ -73,7 +76,7 @@ impl Session {
         }
     }
 
-    fn plan(&mut self, entry: Entry) -> Answer
+    fn plan(&mut self, entry: PlanEntry) -> Answer
         ensures { Carried (session self.old) (Plan entry.charge entry.residue entry.pattern) result (session self.new) }
     {
         match self.store.add_entry(entry) {
@@ -189,7 +192,7 @@ impl Session {
                 charge,
                 residue,
                 pattern,
-            } => self.plan(Entry {
+            } => self.plan(PlanEntry {
                 charge,
                 residue,
                 pattern,

@@ -9,4 +9,4 @@ pub mod simulators;
 pub use shapes::{ShapeFault, check_shape};
 pub use simulator_faults::SimulatorFault;
 pub use simulators::makes::NotMade;
-pub use simulators::{Entry, Simulator};
+pub use simulators::Simulator;

@@ -2,7 +2,7 @@
 use Rattle.std.proofs.Common.{◌≡◌, ℕ, ◌+◌, List, [], ◌∷◌, Ok, Err, Option, Result, refl, ap, inl, inr, MatchResult}
 use Rattle.std.specs.Result.{IsErrAnd}
 use Rattle.flash.specs.FlashState.{FlashState}
-use Rattle.flash.specs.Calls.{PoweredUp, Refused}
+use Rattle.flash.specs.Calls.{Refused}
 use Rattle.flash.specs.declared.faults.FlashFault.{Ghosts as FaultGhosts}
 use Rattle.layout.specs.declared.meanings.Pair.{Pair}
 use Rattle.journal.specs.Reading.{Reading}
@@ -11,7 +11,7 @@ use Rattle.journal.specs.Commit.{commit_writes, formatting}
 use Rattle.journal.specs.Outcomes.{CutShort, WholeOrAbsentAfter, EmptyAfter}
 use Rattle.store.specs.declared.refusals.Refusal.{Refusal}
 use Rattle.store.specs.declared.refusals.Refusal.TheVariants.{WriteStopped}
-use Rattle.store.specs.Stops.{Stop, stops, as_stop, refused_at, FormatRun, CommitRun}
+use Rattle.store.specs.Stops.{Stop, stops, as_stop, refused_at, FormatWrites, CommitRun}
 
 module _ {F : Type 0} (t : FaultGhosts F) where
   abbrev given : F → Stop
@@ -49,17 +49,8 @@ module _ {F : Type 0} (t : FaultGhosts F) where
       let x = h c in
       record { cut = as_stop_cut s _ _ s' e x.cut; after = x.after }
 
-  pub format_run : (s p s' : FlashState) (r : Result (Unit {0}) F) → PoweredUp s p → Performed t formatting p s' r → EmptyAfter t p s' r →
-      FormatRun s (refused_at (as_stop t r)) s'
-  format_run s p s' r up w e =
-      record {
-        powered = p;
-        power_up = up;
-        result = as_stop t r;
-        writes = as_stop_performed formatting p s' r w;
-        empty = as_stop_empty p s' r e;
-        answer = refl;
-      }
+  pub format_writes : (p s' : FlashState) (r : Result (Unit {0}) F) → Performed t formatting p s' r → EmptyAfter t p s' r → FormatWrites p (refused_at (as_stop t r)) s'
+  format_writes p s' r w e = record { result = as_stop t r; writes = as_stop_performed formatting p s' r w; empty = as_stop_empty p s' r e; answer = refl }
 
   pub commit_run : (s : FlashState) (r : Reading) (change : List Pair) (s' : FlashState) (a : Result (Unit {0}) F) →
       Performed t (commit_writes s.width r change (r.number + 1)) s s' a → WholeOrAbsentAfter t s r change (r.number + 1) s' a →

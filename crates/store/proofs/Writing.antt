@@ -292,5 +292,5 @@ format_begins m r m' d =
     (λ big x.
     let parts = roomy_parts m.flash big in
     let u = powered_usable m.flash x.run.powered x.run.power_up parts.0 parts.1 in
-    format_by m m' x.run.powered u r x.run.result (x.run.empty u) (x.answer ∙ ap (written 0) x.run.answer) (x.memory ∙ ap (written_memory formatted) x.run.answer))
+    format_by m m' x.run.powered u r x.run.run.result (x.run.run.empty u) (x.answer ∙ ap (written 0) x.run.run.answer) (x.memory ∙ ap (written_memory formatted) x.run.run.answer))
     (λ small x. subst (λ (q : Result ℕ Refusal). BeginsPast q m') (sym x.0) tt)

@@ -148,16 +148,6 @@ Judged m (Commit shown) r m' = Commits m.memory m shown r m'
 Judged m (Abandon shown) r m' = Abandons 0 m.memory m shown r m'
 Judged m Look r m' = Looks m (λ ps number. Ok number) r m'
 
--- an event that is neither a write nor a power-up leaves the flash as it is, with all that a kind of flash holds besides what is seen of it
-abbrev pub Untouched : {X : Type 0} → Event → X → X → Type 0
-Untouched Format f f' = Unit {0}
-Untouched Recover f f' = Unit {0}
-Untouched Begin f f' = f' ≡ f
-Untouched (Put shown p) f f' = f' ≡ f
-Untouched (Commit shown) f f' = Unit {0}
-Untouched (Abandon shown) f f' = f' ≡ f
-Untouched Look f f' = f' ≡ f
-
 -- by the call with its answer
 abbrev pub Does : Moment → Entry → Moment → Type 0
 Does m (recover r) m' = Recovers m r m'

@@ -7,3 +7,4 @@ pub mod Readings
 pub mod Calls
 pub mod Ledger
 pub mod Law
+pub mod Flashes

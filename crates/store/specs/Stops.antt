@@ -32,15 +32,18 @@ abbrev pub refused_at : {A : Type 0} → Result A Stop → Result A Refusal
 refused_at (Ok x) = Ok x
 refused_at (Err e) = Err (WriteStopped e.1)
 
--- Format on a flash: a power-up, whose charge the flash chooses, then its writes; where the flash is large enough, exactly the
--- charge decides.
+-- The writes of a format on a flash that was powered up; where it is large enough, exactly the charge decides.
+pub record FormatWrites (s : FlashState) (r : Result (Unit {0}) Refusal) (s' : FlashState) : Type 0 where
+  pub result : Result (Unit {0}) Stop
+  pub writes : Performed stops formatting s s' result
+  pub empty : EmptyAfter stops s s' result
+  pub answer : r ≡ refused_at result
+
+-- Format on a flash: a power-up, whose charge the flash chooses, then its writes.
 pub record FormatRun (s : FlashState) (r : Result (Unit {0}) Refusal) (s' : FlashState) : Type 0 where
   pub powered : FlashState
   pub power_up : PoweredUp s powered
-  pub result : Result (Unit {0}) Stop
-  pub writes : Performed stops formatting powered s' result
-  pub empty : EmptyAfter stops powered s' result
-  pub answer : r ≡ refused_at result
+  pub run : FormatWrites powered r s'
 
 -- A commit on a flash, over units that are taken to read as `standing`: its writes, with the next number; where the units do
 -- read so, exactly the charge decides, and a cut leaves the change whole or absent.

@@ -2,11 +2,11 @@
 ghost use Rattle.std.specs.Prelude.{◌≡◌, ◌+◌};
 ghost use Rattle.std.specs.Option.{option_map};
 ghost use Rattle.flash.specs.Seen.{seen};
-ghost use Rattle.flash.specs.Calls.{PoweredUp};
 ghost use Rattle.layout.specs.Held.{pairs_of};
 ghost use Rattle.journal.specs.Reading.{reads};
 ghost use Rattle.journal.specs.Log.{reading_of};
-ghost use Rattle.store.specs.Stops.{is_roomy, FormatRun, CommitRun};
+ghost use Rattle.store.specs.Stops.{is_roomy, CommitRun};
+ghost use Rattle.store.specs.Flashes.{OnePowerUp, FormatsItself};
 
 use crate::refusals::Refusal;
 use flash::faults::FlashFault;
@@ -25,7 +25,7 @@ pub(crate) fn is_roomy<F: Flash>(flash: &F) -> bool
 
 // Powers the flash up and reads its units.
 pub(crate) fn power_up_and_read<F: Flash>(flash: &mut F) -> Option<Standing>
-    ensures powered { PoweredUp (seen F.Flash flash.old) (seen F.Flash flash.new) }
+    ensures powered { OnePowerUp F.Flash flash.old flash.new }
     ensures reading { option_map reading_of result ≡ reads (F.Flash.units flash.old) }
 {
     flash.power_up();
@@ -34,7 +34,7 @@ pub(crate) fn power_up_and_read<F: Flash>(flash: &mut F) -> Option<Standing>
 
 // Powers the flash up and writes an empty store.
 pub(crate) fn power_up_and_format<F: Flash>(flash: &mut F) -> Result<(), Refusal>
-    ensures { FormatRun (seen F.Flash flash.old) result (seen F.Flash flash.new) }
+    ensures { FormatsItself F.Flash flash.old result flash.new }
 {
     flash.power_up();
     format_banks(flash).map_err(|fault| Refusal::WriteStopped(fault.place()))
@@ -50,7 +50,8 @@ pub(crate) fn write<F: Flash>(
     number: u32,
 ) -> Result<(), Refusal>
     requires { number ≡ standing.now.number + 1 }
-    ensures { CommitRun (seen F.Flash flash.old) (reading_of standing.now) (pairs_of change.now) result (seen F.Flash flash.new) }
+    ensures run { CommitRun (seen F.Flash flash.old) (reading_of standing.now) (pairs_of change.now) result (seen F.Flash flash.new) }
+    ensures plan { F.Flash.plan flash.new ≡ F.Flash.plan flash.old }
 {
     write_change(flash, standing, change, number).map_err(|fault| Refusal::WriteStopped(
         fault.place(),

@@ -1,6 +1,7 @@
 // The image is a flash.
 ghost use Rattle.std.specs.Prelude.{◌≡◌};
 ghost use Rattle.flash.specs.Calls.{Program, Erase, PoweredUp};
+ghost use Rattle.flash.specs.Plans.{no_plan};
 ghost use Rattle.image.specs.ImageOpening.{image_bytes};
 ghost use Rattle.image.specs.ImageStates.{image_units, image_width, image_on, image_charge, image_flash, image_after_program, image_after_erase, image_after_power_up};
 ghost use Rattle.image.specs.Formed.{image_formed, opened};
@@ -24,6 +25,10 @@ impl Flash for Image {
     ghost power = { λ m. image_on (image_bytes m) };
 
     ghost charge = { λ m. image_charge (image_bytes m) };
+
+    ghost plan = { λ m. no_plan };
+
+    ghost powered = { λ m m'. image_bytes m' ≡ image_after_power_up (image_bytes m) };
 
     ghost formed = { λ m. image_formed (image_bytes m) (opened (image_bytes m) m.opened) };
 

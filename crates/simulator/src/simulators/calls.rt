@@ -7,19 +7,20 @@ ghost use Rattle.simulator.specs.Formed.{table_formed, items, full_of};
 
 use crate::residues::{cut_erase, program_residue};
 use crate::simulator_faults::SimulatorFault;
-use crate::simulators::{Entry, Simulator};
+use crate::simulators::Simulator;
 use flash::causes::Why;
 use flash::faults::FlashFault;
 use flash::interface::Flash;
+use flash::plans::PlanEntry;
 use flash::units::Unit;
 use std::ops::Range;
 
 impl Simulator {
     // The entry that the next power-up takes.
-    fn next_entry(&self) -> Entry
-        ensures { result ≡ next_entry (state_of self.now) }
+    fn next_entry(&self) -> PlanEntry
+        ensures { result ≡ next_entry (state_of self.now).plan }
     {
-        self.plan.get(self.position).copied().unwrap_or(Entry {
+        self.plan.get(self.taken).copied().unwrap_or(PlanEntry {
             charge: u32::MAX,
             residue: 2,
             pattern: 0,
@@ -63,6 +64,10 @@ impl Flash for Simulator {
     ghost power = { λ s. s.on };
 
     ghost charge = { λ s. s.entry.charge };
+
+    ghost plan = { λ s. (state_of s).plan };
+
+    ghost powered = { λ s s'. state_of s' ≡ after_power_up (state_of s) };
 
     ghost formed = { λ s. table_formed s.banks s.width (items s) s.on s.entry.charge (full_of s) s.shape.3 s.fits s.values };
 
@@ -131,8 +136,8 @@ impl Flash for Simulator {
         ensures state { state_of self.new ≡ after_power_up (state_of self.old) }
     {
         self.entry = self.next_entry();
-        if self.position < self.plan.len() {
-            self.position += 1;
+        if self.taken < self.plan.len() {
+            self.taken += 1;
         }
         self.on = true;
     }

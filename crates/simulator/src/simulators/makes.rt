@@ -1,12 +1,14 @@
 // How a simulator is made, and how its plan grows.
-ghost use Rattle.std.specs.Prelude.{◌≡◌, ◌+◌, ◌<◌, length, vec_len, MatchOption, MatchResult};
+ghost use Rattle.std.specs.Prelude.{◌≡◌, vec_len, MatchResult};
 ghost use Rattle.simulator.specs.Shapes.{make_refusal, shape_number};
-ghost use Rattle.simulator.specs.SimulatorStates.{state_of, new_simulator, with_entry};
+ghost use Rattle.flash.specs.Plans.{Added};
+ghost use Rattle.simulator.specs.SimulatorStates.{state_of, new_simulator, with_plan};
 
 use crate::shapes::{ShapeFault, check_shape};
-use crate::simulators::{Entry, Simulator};
+use crate::simulators::Simulator;
 use arrayvec::ArrayVec;
 use flash::planned::Planned;
+use flash::plans::PlanEntry;
 use flash::units::Unit;
 
 // A table that no simulator was made on, and why.
@@ -33,29 +35,25 @@ impl Simulator {
             width,
             table,
             on: false,
-            entry: Entry {
+            entry: PlanEntry {
                 charge: 0,
                 residue: 2,
                 pattern: 0,
             },
             plan: ArrayVec::new(),
-            position: 0,
+            taken: 0,
         })
     }
 }
 
 impl Planned for Simulator {
-    type Entry = Entry;
-
-    ghost plan = { λ s. s.plan.items };
-
     ghost most = { 16 };
 
-    fn add_entry(&mut self, added: Entry) -> Option<usize>
-        ensures room { MatchOption result (length (state_of self.old).plan ≡ 16) (λ n. (length (state_of self.old).plan < 16) × (n ≡ length (state_of self.old).plan + 1)) }
-        ensures state { MatchOption result (state_of self.new ≡ state_of self.old) (λ _. state_of self.new ≡ with_entry (state_of self.old) added) }
+    fn add_entry(&mut self, entry: PlanEntry) -> Option<usize>
+        ensures plan { Added 16 (state_of self.old).plan entry result (state_of self.new).plan }
+        ensures state { state_of self.new ≡ with_plan (state_of self.old) (state_of self.new).plan }
     {
-        self.plan.try_push(added).ok()?;
+        self.plan.try_push(entry).ok()?;
         Some(self.plan.len())
     }
 }

@@ -2,11 +2,12 @@
 //
 // Of each call two things are said. `does`: exactly what it answers and what it leaves, whatever the store was before. `ledger`: after every past since
 // an accepted format the answer is the one that the ledger of that past calls for, and the store agrees with the past and this call; of format,
-// `past`: accepted, it begins one. That what the store knows stays what its units say is the invariant of its type.
+// `past`: accepted, it begins one. And `flash`: what became of the flash itself, with all that its kind holds besides what is seen of it. That what the store knows stays what its units say is the invariant of its type.
 ghost use Rattle.std.specs.Prelude.{◌≡◌};
 ghost use Rattle.store.specs.declared.entries.Entry.TheVariants.{Recover, Begin, Put, Commit, Abandon, Get};
 ghost use Rattle.store.specs.Moments.{moment};
 ghost use Rattle.store.specs.Calls.{Formats, Does, ticket_number};
+ghost use Rattle.store.specs.Flashes.{RecoversFlash, FormatsFlash, CommitsFlash};
 ghost use Rattle.store.specs.Law.{FollowsLedger, BeginsPast};
 
 use crate::phases::Event;
@@ -22,6 +23,7 @@ impl<F: Flash> Store<F> {
     pub fn format(&mut self) -> Result<u32, Refusal>
         ensures does { Formats (moment F.Flash self.old) result (moment F.Flash self.new) }
         ensures past { BeginsPast result (moment F.Flash self.new) }
+        ensures flash { FormatsFlash F.Flash self.old.flash result self.new.flash }
     {
         self.judge(Event::Format)
     }
@@ -30,6 +32,7 @@ impl<F: Flash> Store<F> {
     pub fn recover(&mut self) -> Result<u32, Refusal>
         ensures does { Does (moment F.Flash self.old) (Recover result) (moment F.Flash self.new) }
         ensures ledger { FollowsLedger (moment F.Flash self.old) (Recover result) (moment F.Flash self.new) }
+        ensures flash { RecoversFlash F.Flash self.old.flash self.new.flash }
     {
         self.judge(Event::Recover)
     }
@@ -62,6 +65,7 @@ impl<F: Flash> Store<F> {
     pub fn commit(&mut self, ticket: Ticket) -> Result<u32, Refusal>
         ensures does { Does (moment F.Flash self.old) (Commit ticket.number result) (moment F.Flash self.new) }
         ensures ledger { FollowsLedger (moment F.Flash self.old) (Commit ticket.number result) (moment F.Flash self.new) }
+        ensures flash { CommitsFlash F.Flash self.old.flash result self.new.flash }
     {
         let Ticket { number } = ticket;
         self.judge(Event::Commit { ticket: number })

@@ -3,7 +3,8 @@ ghost use Rattle.std.specs.Prelude.{◌≡◌, ℕ};
 ghost use Rattle.layout.specs.Held.{pairs_of};
 ghost use Rattle.journal.specs.Log.{reading_of};
 ghost use Rattle.store.specs.Moments.{moment};
-ghost use Rattle.store.specs.Calls.{Judged, Recovers, Formats, Opens, PutsOpen, CommitsOpen, Untouched};
+ghost use Rattle.store.specs.Calls.{Judged, Recovers, Formats, Opens, PutsOpen, CommitsOpen};
+ghost use Rattle.store.specs.Flashes.{RecoversFlash, FormatsFlash, CommitsFlash, OnFlash};
 
 use crate::changes::add;
 use crate::flashes::{is_roomy, power_up_and_format, power_up_and_read, write};
@@ -17,7 +18,8 @@ use layout::pairs::Pairs;
 
 impl<F: Flash> Store<F> {
     fn recover_units(&mut self) -> Result<u32, Refusal>
-        ensures { Recovers (moment F.Flash self.old) result (moment F.Flash self.new) }
+        ensures recovers { Recovers (moment F.Flash self.old) result (moment F.Flash self.new) }
+        ensures flash { RecoversFlash F.Flash self.old.flash self.new.flash }
     {
         self.phase = Phase::Cold;
         if !is_roomy(&self.flash) {
@@ -30,7 +32,8 @@ impl<F: Flash> Store<F> {
     }
 
     fn format_units(&mut self) -> Result<u32, Refusal>
-        ensures { Formats (moment F.Flash self.old) result (moment F.Flash self.new) }
+        ensures formats { Formats (moment F.Flash self.old) result (moment F.Flash self.new) }
+        ensures flash { FormatsFlash F.Flash self.old.flash result self.new.flash }
     {
         if !is_roomy(&self.flash) {
             return Err(Refusal::SmallFlash);
@@ -67,7 +70,8 @@ impl<F: Flash> Store<F> {
     // Writes the open change, which ends it.
     fn commit_open(&mut self) -> Result<u32, Refusal>
         requires { (ticket : ℕ) × (self.old.phase ≡ Phase.Changing ticket) }
-        ensures { CommitsOpen (moment F.Flash self.old) (reading_of self.old.standing) (pairs_of self.old.change) result (moment F.Flash self.new) }
+        ensures commits { CommitsOpen (moment F.Flash self.old) (reading_of self.old.standing) (pairs_of self.old.change) result (moment F.Flash self.new) }
+        ensures flash { CommitsFlash F.Flash self.old.flash result self.new.flash }
     {
         let Some(number) = self.standing.number.checked_add(1) else {
             self.phase = Phase::Ready;
@@ -85,7 +89,7 @@ impl<F: Flash> Store<F> {
     // kept: one match on phase and event, the project's form (docs/DECISIONS.md).
     pub(crate) fn judge(&mut self, event: Event) -> Result<u32, Refusal>
         ensures judged { Judged (moment F.Flash self.old) event result (moment F.Flash self.new) }
-        ensures flash { Untouched event self.old.flash self.new.flash }
+        ensures flash { OnFlash F.Flash event self.old.flash result self.new.flash }
     {
         match (self.phase, event) {
             (_, Event::Format) => self.format_units(),

@@ -5,11 +5,12 @@ ghost use Rattle.store.specs.Moments.{moment};
 
 use crate::stores::Store;
 use flash::planned::Planned;
+use flash::plans::PlanEntry;
 
 impl<F: Planned> Store<F> {
     // Adds an entry to the plan of the flash, and answers how many there are, unless the plan is full. The store stays as it is.
-    pub fn add_entry(&mut self, entry: F::Entry) -> Option<usize>
-        ensures plan { Added F.most (F.plan self.old.flash) entry result (F.plan self.new.flash) }
+    pub fn add_entry(&mut self, entry: PlanEntry) -> Option<usize>
+        ensures plan { Added F.most (F.Flash.plan self.old.flash) entry result (F.Flash.plan self.new.flash) }
         ensures same { moment F.Flash self.new ≡ moment F.Flash self.old }
     {
         self.flash.add_entry(entry)

@@ -7,8 +7,8 @@ use Rattle.journal.specs.Writes.{Performed, program}
 use Rattle.journal.proofs.Performing.{appending_is, program_performed, performed_append, performed_short}
 use Rattle.journal.proofs.writers.append.Goals as goal
 
-pub returns-in_err-at : goal.returns-in_err-at
-returns-in_err-at g c =
+pub returns-in_err-at-clause-writes : goal.returns-in_err-at-clause-writes
+returns-in_err-at-clause-writes g c =
     let ps = pairs_of c.args.change.now in
     let t = g.F.Fault.FlashFault in
     let s = seen g.F.Flash c.args.flash.now in
@@ -19,8 +19,8 @@ returns-in_err-at g c =
     (subst (λ ws. Performed {A = Unit {0}} t ws s s' (Err e)) (appending_is c.args.standing.now.bank c.args.standing.now.end _ _ ps c.args.number refl refl)
     (performed_short t ℕ (Unit {0}) (records c.args.standing.now.bank c.args.standing.now.end ps) _ s s' e c.in_err-at.ensures.writes))
 
-pub returns : goal.returns
-returns g c =
+pub returns-clause-writes : goal.returns-clause-writes
+returns-clause-writes g c =
     let ps = pairs_of c.args.change.now in
     let t = g.F.Fault.FlashFault in
     let s = seen g.F.Flash c.args.flash.now in

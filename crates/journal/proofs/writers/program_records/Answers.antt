@@ -17,6 +17,7 @@ loop-i-init g c =
       fits = search rules;
       rest = c.iter-pair-items.ensures;
       onward = subst (λ l. Onward g.F.Fault.FlashFault ℕ ws s l s) (λ i. records c.args.bank (sym begins i) (sym c.iter-pair-items.ensures i)) (onward_none g.F.Fault.FlashFault ℕ ws s);
+      plan = search rules;
     }
 
 pub returns-in_err-program-clause-writes : goal.returns-in_err-program-clause-writes
@@ -49,6 +50,7 @@ loop-i-preserved g c =
           subst (λ u. Onward t ℕ ws s (records c.args.bank u left) (seen g.F.Flash c.program.new.self)) further
           (record_done t ℕ ws s c.args.bank at _ p left (seen g.F.Flash c.loop-i.flash) (seen g.F.Flash c.program.new.self) c.in-Some.ensures.steps
           c.encode_record.result c.encode_record.ensures.value c.loop-i.invariant.onward c.in_ok-program.ensures.programs);
+      plan = c.in_ok-program.ensures.plan ∙ c.loop-i.invariant.plan;
     }
 
 pub returns-clause-writes : goal.returns-clause-writes

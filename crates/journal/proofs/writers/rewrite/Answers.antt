@@ -7,8 +7,8 @@ use Rattle.journal.specs.Writes.{Performed, program, erase}
 use Rattle.journal.proofs.Performing.{program_performed, performed_append, performed_short, erase_then}
 use Rattle.journal.proofs.writers.rewrite.Goals as goal
 
-pub returns-in_err-program_records : goal.returns-in_err-program_records
-returns-in_err-program_records g c =
+pub returns-in_err-program_records-clause-writes : goal.returns-in_err-program_records-clause-writes
+returns-in_err-program_records-clause-writes g c =
     let ps = pairs_of c.args.pairs.now in
     let t = g.F.Fault.FlashFault in
     let b = c.args.bank in
@@ -22,8 +22,8 @@ returns-in_err-program_records g c =
     (erase_then t s b k (records b 1 ps ++ top) s' (Err e) c.in_ok-erase.ensures.erases
     (performed_short t ℕ (Unit {0}) (records b 1 ps) top k s' e c.in_err-program_records.ensures.writes))
 
-pub returns : goal.returns
-returns g c =
+pub returns-clause-writes : goal.returns-clause-writes
+returns-clause-writes g c =
     let ps = pairs_of c.args.pairs.now in
     let t = g.F.Fault.FlashFault in
     let b = c.args.bank in

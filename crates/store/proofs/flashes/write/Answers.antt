@@ -9,8 +9,8 @@ use Rattle.store.specs.Stops.{CommitRun}
 use Rattle.store.proofs.Stopping.{commit_run, stopped_is}
 use Rattle.store.proofs.flashes.write.Goals as goal
 
-pub returns : goal.returns
-returns g c =
+pub returns-clause-run : goal.returns-clause-run
+returns-clause-run g c =
     let t = g.F.Fault.FlashFault in
     let s = seen g.F.Flash c.args.flash.now in
     let s' = seen g.F.Flash c.write_change.new.flash in

@@ -12,5 +12,5 @@ returns g c =
     let on : (mirrored a b).on ≡ true = and_from a.on b.on (sym c.is_on.ensures ∙ c.if-not-is_on.false) (sym c.is_on-else-not-is_on.ensures ∙ c.if-not-is_on-2.false) in
     let there : c.args.bank < length (mirrored a b).units = omega (arith, c.banks.ensures.count, c.if-bank-banks.false) in
     let both = erase_by_sides g.A.Fault.FlashFault g.B.Fault.FlashFault a b c.args.bank (g.met.A.Flash.formed c.args.self.now.first) (g.met.B.Flash.formed c.args.self.now.second) on there
-    (seen g.A.Flash c.erase_sides.new.self.first) (seen g.B.Flash c.erase_sides.new.self.second) c.erase_sides.result c.erase_sides.ensures in
-    record { erases = both.0; sides = c.erase_sides.ensures; cuts = both.1 }
+    (seen g.A.Flash c.erase_sides.new.self.first) (seen g.B.Flash c.erase_sides.new.self.second) c.erase_sides.result c.erase_sides.ensures.sides in
+    record { erases = both.0; sides = c.erase_sides.ensures.sides; cuts = both.1; left = c.erase_sides.ensures.left; plans = c.erase_sides.ensures.plans }

@@ -9,4 +9,4 @@ returns g c =
     let m = moment g.F.Flash c.args.self.now in
     let m' = moment g.F.Flash c.judge.new.self in
     let e : Entry = Commit c.args.ticket.number c.judge.result in
-    record { does = c.judge.ensures.judged; ledger = follows_ledger m e m' c.judge.ensures.judged }
+    record { does = c.judge.ensures.judged; ledger = follows_ledger m e m' c.judge.ensures.judged; flash = c.judge.ensures.flash }

@@ -6,4 +6,4 @@ pub returns : goal.returns
 returns g c =
     let m = moment g.F.Flash c.args.self.now in
     let m' = moment g.F.Flash c.judge.new.self in
-    record { does = c.judge.ensures.judged; past = format_begins m c.judge.result m' c.judge.ensures.judged }
+    record { does = c.judge.ensures.judged; past = format_begins m c.judge.result m' c.judge.ensures.judged; flash = c.judge.ensures.flash }
