@@ -39,11 +39,11 @@ pub enum Refusal {
     RawValue,
     // 13: this is the lowest of the keys 1 to 11 that has no value.
     Absent(u8),
-    // 14: the step was taken before the last commit.
+    // 14: the step has another number than the store.
     OldStep,
-    // 15: no temperature of -40.0 to 85.0 degrees.
+    // 15: X1 + MD is 0, or T is not -40.0 to 85.0 degrees.
     NoTemperature,
-    // 16: no pressure of at most 1,000,000 Pa.
+    // 16: UP is below B3, B4 is not above 0, or p is above 1,000,000.
     NoPressure,
 }
 
