@@ -1,6 +1,1 @@
-pub mod Cuts
-pub mod Digits
-pub mod Names
-pub mod Lines
-pub mod Parted
 pub mod Powering

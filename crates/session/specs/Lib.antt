@@ -1,7 +1,2 @@
-pub mod Words
-pub mod Tokens
-pub mod Numbers
-pub mod Commands
-pub mod Answers
 pub mod Sessions
 pub mod Held

@@ -13,10 +13,10 @@ use Rattle.store.specs.Moments.{Moment}
 use Rattle.store.specs.Calls.{If, Does, Formats, written}
 use Rattle.store.specs.Stops.{is_roomy, FormatWrites}
 use Rattle.store.specs.Refusals.{refusal_number}
-use Rattle.session.specs.declared.answers.Answer.{Answer}
-use Rattle.session.specs.declared.answers.Answer.TheVariants.{Done, Number, Value, Temperature as Degrees, Line, Refused, WriteStopped}
-use Rattle.session.specs.declared.commands.Command.{Command}
-use Rattle.session.specs.declared.commands.Command.TheVariants.{Plan, Format, Recover, Begin, Put, Commit, Abandon, Get, Temperature, Pressure}
+use Rattle.lines.specs.declared.answers.Answer.{Answer}
+use Rattle.lines.specs.declared.answers.Answer.TheVariants.{Done, Number, Value, Temperature as Degrees, Line, Refused, WriteStopped}
+use Rattle.lines.specs.declared.commands.Command.{Command}
+use Rattle.lines.specs.declared.commands.Command.TheVariants.{Plan, Format, Recover, Begin, Put, Commit, Abandon, Get, Temperature, Pressure}
 
 -- the store, the simulator's plan, and what is held: the ticket of a change by its number, a step by its numbers
 pub record Session : Type 0 where

@@ -1,10 +1,6 @@
-// A session's lines: the commands that lines give, and the text of the answers.
+// A session with a store: what each line does, what it answers, and what is held between lines.
 #![tactic(auto)]
 
-pub mod answers;
-pub mod commands;
-pub mod numbers;
 pub mod sessions;
 #[cfg(test)]
 mod tests;
-pub mod tokens;

@@ -1,24 +1,24 @@
 // A session: the store on a simulator, and the ticket and the step that it holds from one line to the next.
 ghost use Rattle.std.specs.Prelude.{◌≡◌, None};
-ghost use Rattle.session.specs.declared.answers.Answer.TheVariants.{Number};
-ghost use Rattle.session.specs.declared.commands.Command.TheVariants.{Plan, Format, Recover, Begin, Put, Commit, Abandon, Get, Temperature, Pressure};
-ghost use Rattle.session.specs.Commands.{command_of as command_in_line};
+ghost use Rattle.lines.specs.declared.answers.Answer.TheVariants.{Number};
+ghost use Rattle.lines.specs.declared.commands.Command.TheVariants.{Plan, Format, Recover, Begin, Put, Commit, Abandon, Get, Temperature, Pressure};
+ghost use Rattle.lines.specs.Commands.{command_of as command_in_line};
 ghost use Rattle.session.specs.Sessions.{Answered, Carried, LetGo, answer_of, refused};
 ghost use Rattle.simulator.specs.SimulatorStates.{state_of};
 ghost use Rattle.store.specs.Moments.{moment};
 ghost use Rattle.session.specs.Held.{session};
 
-use crate::answers::Answer;
-use crate::commands::{Command, command_of};
 use flash::interface::Flash;
 use flash::plans::PlanEntry;
+use lines::answers::Answer;
+use lines::commands::{Command, command_of};
 use simulator::Simulator;
 use store::refusals::Refusal;
 use store::steps::Step;
 use store::stores::Store;
 use store::tickets::Ticket;
 
-// The answer to a line that is no command, to an entry for a full plan, and where there is no ticket or no step: none of these reaches the store.
+// The answer to a line that is no command, to an entry for a full plan, and where there is no ticket or no step: none of these is a call of the store.
 const UNKNOWN: Answer = Answer::Refused(17);
 
 // The ticket of the change that was begun, and the step of the last temperature, each until it is used.
@@ -28,14 +28,13 @@ pub struct Session {
     step: Option<Step>,
 }
 
-impl From<Refusal> for Answer {
-    ghost from_gives = { λ why answer. answer ≡ refused why };
-
-    fn from(why: Refusal) -> Answer {
-        match why {
-            Refusal::WriteStopped(place) => Answer::WriteStopped(place),
-            _ => Answer::Refused(why.number()),
-        }
+// What a refused call answers: 11 with its place, or the number of another refusal.
+fn refused(why: Refusal) -> Answer
+    ensures { result ≡ refused why }
+{
+    match why {
+        Refusal::WriteStopped(place) => Answer::WriteStopped(place),
+        _ => Answer::Refused(why.number()),
     }
 }
 
@@ -45,7 +44,7 @@ fn number_answer(answer: Result<u32, Refusal>) -> Answer
 {
     match answer {
         Ok(number) => Answer::Number(number),
-        Err(why) => Answer::from(why),
+        Err(why) => refused(why),
     }
 }
 
@@ -111,7 +110,7 @@ impl Session {
                 }
                 Answer::Number(number)
             }
-            Err(why) => Answer::from(why),
+            Err(why) => refused(why),
         }
     }
 
@@ -139,7 +138,7 @@ impl Session {
         match self.ticket.take() {
             Some(ticket) => match self.store.abandon(ticket) {
                 Ok(()) => Answer::Done,
-                Err(why) => Answer::from(why),
+                Err(why) => refused(why),
             },
             None => UNKNOWN,
         }
@@ -150,7 +149,7 @@ impl Session {
     {
         match self.store.get(key) {
             Ok(value) => Answer::Value(value),
-            Err(why) => Answer::from(why),
+            Err(why) => refused(why),
         }
     }
 
@@ -164,7 +163,7 @@ impl Session {
                 self.step = Some(step);
                 Answer::Temperature { t }
             }
-            Err(why) => Answer::from(why),
+            Err(why) => refused(why),
         }
     }
 
@@ -177,7 +176,7 @@ impl Session {
                     t: line.t,
                     pa: line.p,
                 },
-                Err(why) => Answer::from(why),
+                Err(why) => refused(why),
             },
             None => UNKNOWN,
         }

@@ -1,9 +1,9 @@
 use Rattle.std.proofs.Common.{ap, sym, ◌∙◌}
-use Rattle.session.specs.Words.{words}
-use Rattle.session.specs.Tokens.{says, token_text}
-use Rattle.session.specs.Commands.{alone, with_one, with_two, with_three}
-use Rattle.session.proofs.Lines.{command_by, of_their_kind, then}
-use Rattle.session.proofs.commands.of_words.Goals as goal
+use Rattle.lines.specs.Words.{words}
+use Rattle.lines.specs.Tokens.{says, token_text}
+use Rattle.lines.specs.Commands.{alone, with_one, with_two, with_three}
+use Rattle.lines.proofs.Lines.{command_by, of_their_kind, then}
+use Rattle.lines.proofs.commands.of_words.Goals as goal
 
 pub returns-in_err-next : goal.returns-in_err-next
 returns-in_err-next c =

@@ -1,7 +1,7 @@
 // Decimal numbers: one digit or more and nothing else, leading zeros allowed; before a signed one there may be one minus sign.
 ghost use Rattle.std.specs.Prelude.{◌≡◌, Some, None, cond, ◌-◌};
 ghost use Rattle.std.specs.Char.{is_ascii_digit};
-ghost use Rattle.session.specs.Numbers.{unsigned_of, signed_of};
+ghost use Rattle.lines.specs.Numbers.{unsigned_of, signed_of};
 
 // The value of a digit.
 fn digit(byte: u8) -> Option<u8>

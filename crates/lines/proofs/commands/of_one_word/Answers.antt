@@ -1,7 +1,7 @@
 use Rattle.std.proofs.Common.{codes, ap, sym, rules, arith}
 use Rattle.std.proofs.lemmas.Slice.Eq.{text_from_reads}
-use Rattle.session.specs.Commands.{alone}
-use Rattle.session.proofs.commands.of_one_word.Goals as goal
+use Rattle.lines.specs.Commands.{alone}
+use Rattle.lines.proofs.commands.of_one_word.Goals as goal
 
 pub returns-in-format : goal.returns-in-format
 returns-in-format c = sym (ap alone (text_from_reads c.args.verb.now (codes "format") (omega arith) (search rules)))

@@ -4,8 +4,8 @@ use Rattle.std.proofs.lemmas.List.{length-drop, get_or-drop, get_or-take, drop-d
 use Rattle.std.proofs.lemmas.List.Sums.{prefix_len_passes, prefix_len_stops}
 use Rattle.std.proofs.lemmas.List.Folds.{length-prefix_len}
 use Rattle.std.specs.List.{position, position_or_len}
-use Rattle.session.specs.Words.{is_space, words_from, words, Spaces, IsWord, AreWords}
-use Rattle.session.proofs.Cuts.{place_found, no_place, no_word, next_word}
+use Rattle.lines.specs.Words.{is_space, words_from, words, Spaces, IsWord, AreWords}
+use Rattle.lines.proofs.Cuts.{place_found, no_place, no_word, next_word}
 
 true_of : (b : Bool) → not (not b) ≡ true → b ≡ true
 true_of true h = refl

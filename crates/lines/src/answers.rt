@@ -1,6 +1,6 @@
 // What a session answers to a line, and how it is printed.
 ghost use Rattle.std.specs.Prelude.{Some};
-ghost use Rattle.session.specs.Answers.{answer_text};
+ghost use Rattle.lines.specs.Answers.{answer_text};
 
 use compensation::text::{degrees, hectopascals};
 use flash::faults::Place;

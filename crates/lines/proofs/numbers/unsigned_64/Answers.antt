@@ -1,6 +1,6 @@
 use Rattle.std.proofs.Common.{sym, ◌∙◌, arith}
-use Rattle.session.proofs.Digits.{overflows, at_the_end}
-use Rattle.session.proofs.numbers.unsigned_64.Goals as goal
+use Rattle.lines.proofs.Digits.{overflows, at_the_end}
+use Rattle.lines.proofs.numbers.unsigned_64.Goals as goal
 
 pub returns-in_err-checked_mul : goal.returns-in_err-checked_mul
 returns-in_err-checked_mul c =

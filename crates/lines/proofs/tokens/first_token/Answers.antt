@@ -1,8 +1,8 @@
 use Rattle.std.proofs.Common.{◌≡◌, true, [], map, sym, ap, ◌∙◌}
-use Rattle.session.specs.Words.{words_from, saying}
-use Rattle.session.specs.Tokens.{tokens_from}
-use Rattle.session.proofs.Cuts.{no_word, cut_word, to_the_end}
-use Rattle.session.proofs.tokens.first_token.Goals as goal
+use Rattle.lines.specs.Words.{words_from, saying}
+use Rattle.lines.specs.Tokens.{tokens_from}
+use Rattle.lines.proofs.Cuts.{no_word, cut_word, to_the_end}
+use Rattle.lines.proofs.tokens.first_token.Goals as goal
 
 pub returns-in_err-gap : goal.returns-in_err-gap
 returns-in_err-gap c =

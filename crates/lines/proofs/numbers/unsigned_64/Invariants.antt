@@ -1,7 +1,7 @@
 use Rattle.std.proofs.Common.{◌≡◌, ◌≤◌, drop}
-use Rattle.session.specs.Numbers.{unsigned_of}
-use Rattle.session.proofs.Digits.{number_after}
-use Rattle.session.proofs.numbers.unsigned_64.Given as goal
+use Rattle.lines.specs.Numbers.{unsigned_of}
+use Rattle.lines.proofs.Digits.{number_after}
+use Rattle.lines.proofs.numbers.unsigned_64.Given as goal
 
 abbrev pub invariant-loop-byte : goal.invariant-loop-byte
 invariant-loop-byte l = record {

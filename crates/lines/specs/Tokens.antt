@@ -1,9 +1,9 @@
 -- What tokens say, and which tokens a reader of a line has still to give.
 use Rattle.std.specs.Prelude.{◌≡◌, ℕ, Bool, true, false, List, map, drop, Some, None, Option}
-use Rattle.session.specs.Words.{words_from, saying, begins_number}
-use Rattle.session.specs.declared.tokens.Token.{Token}
-use Rattle.session.specs.declared.tokens.Token.TheVariants.{Number, Name}
-use Rattle.session.specs.declared.tokens.Words.{Words}
+use Rattle.lines.specs.Words.{words_from, saying, begins_number}
+use Rattle.lines.specs.declared.tokens.Token.{Token}
+use Rattle.lines.specs.declared.tokens.Token.TheVariants.{Number, Name}
+use Rattle.lines.specs.declared.tokens.Words.{Words}
 
 -- whether it is a number's, its place and its bytes
 abbrev pub says : Token → (Bool × ℕ × List ℕ)

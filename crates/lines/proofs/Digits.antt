@@ -5,7 +5,7 @@ use Rattle.std.proofs.lemmas.List.{drop_all}
 use Rattle.std.proofs.lemmas.Option.{cond_some}
 use Rattle.std.specs.Char.{is_ascii_digit}
 use Rattle.std.specs.Str.{all_ascii_digits}
-use Rattle.session.specs.Numbers.{value_after, unsigned_of}
+use Rattle.lines.specs.Numbers.{value_after, unsigned_of}
 
 -- the number of at most `most` that bytes write when they follow the digits of n
 abbrev pub number_after : ℕ → ℕ → List ℕ → Option ℕ

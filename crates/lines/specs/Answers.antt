@@ -3,8 +3,8 @@ use Rattle.std.specs.Prelude.{ℕ, List, ◌++◌, ℤ, pos, codes, decimal, Som
 use Rattle.std.specs.Fmt.{signed_decimal}
 use Rattle.compensation.specs.Division.{floor_div}
 use Rattle.compensation.specs.Texts.{tenths_text}
-use Rattle.session.specs.declared.answers.Answer.{Answer}
-use Rattle.session.specs.declared.answers.Answer.TheVariants.{Done, Number, Value, Temperature, Line, Refused, WriteStopped}
+use Rattle.lines.specs.declared.answers.Answer.{Answer}
+use Rattle.lines.specs.declared.answers.Answer.TheVariants.{Done, Number, Value, Temperature, Line, Refused, WriteStopped}
 
 -- an absent value is a dash
 abbrev pub value_text : Option ℤ → List ℕ

@@ -3,8 +3,8 @@ ghost use Rattle.std.specs.Prelude.{◌≡◌, map, not, [], ◌∷◌, MatchOpt
 ghost use Rattle.std.specs.List.{position, position_or_len};
 ghost use Rattle.std.specs.Option.{option_map};
 ghost use Rattle.std.specs.Iterator.{YieldsFirstBy, item_count};
-ghost use Rattle.session.specs.Words.{is_space, words, saying, AreWords};
-ghost use Rattle.session.specs.Tokens.{says, token_text, number_text, tokens_from, tokens_left};
+ghost use Rattle.lines.specs.Words.{is_space, words, saying, AreWords};
+ghost use Rattle.lines.specs.Tokens.{says, token_text, number_text, tokens_from, tokens_left};
 
 const SPACE: u8 = b' ';
 

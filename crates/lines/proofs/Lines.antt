@@ -1,7 +1,7 @@
 -- From the tokens of a line to its words.
 use Rattle.std.proofs.Common.{◌≡◌, ℕ, Bool, List, [], ◌∷◌, map, sym, refl, ap, ◌∙◌, subst}
-use Rattle.session.specs.Words.{words, saying, begins_number}
-use Rattle.session.specs.Commands.{command_in}
+use Rattle.lines.specs.Words.{words, saying, begins_number}
+use Rattle.lines.specs.Commands.{command_in}
 
 texts_same : (ws : List (ℕ × List ℕ)) → map (λ w. w.1) ws ≡ map (λ s. s.2) (map saying ws)
 texts_same [] = refl

@@ -1,9 +1,9 @@
 // The commands of a session, one for each line.
 ghost use Rattle.std.specs.Prelude.{◌≡◌, map};
 ghost use Rattle.layout.specs.Catalogue.{key_named as key_of};
-ghost use Rattle.session.specs.Tokens.{token_text, IsOfItsKind};
-ghost use Rattle.session.specs.Words.{words};
-ghost use Rattle.session.specs.Commands.{alone, with_one, with_two, with_three, command_in, command_of};
+ghost use Rattle.lines.specs.Tokens.{token_text, IsOfItsKind};
+ghost use Rattle.lines.specs.Words.{words};
+ghost use Rattle.lines.specs.Commands.{alone, with_one, with_two, with_three, command_in, command_of};
 
 use crate::numbers::{signed_32, unsigned_8, unsigned_32, unsigned_64};
 use crate::tokens::{Token, Words};

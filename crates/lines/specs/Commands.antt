@@ -3,10 +3,10 @@ use Rattle.std.specs.Prelude.{ℕ, cond, List, [], ◌∷◌, map, length, codes
 use Rattle.std.specs.Option.{option_map}
 use Rattle.std.specs.Str.{bytes_eq}
 use Rattle.layout.specs.Catalogue.{key_named}
-use Rattle.session.specs.Numbers.{unsigned_of, signed_of}
-use Rattle.session.specs.Words.{words}
-use Rattle.session.specs.declared.commands.Command.{Command}
-use Rattle.session.specs.declared.commands.Command.TheVariants.{Plan, Format, Recover, Begin, Put, Commit, Abandon, Get, Temperature, Pressure}
+use Rattle.lines.specs.Numbers.{unsigned_of, signed_of}
+use Rattle.lines.specs.Words.{words}
+use Rattle.lines.specs.declared.commands.Command.{Command}
+use Rattle.lines.specs.declared.commands.Command.TheVariants.{Plan, Format, Recover, Begin, Put, Commit, Abandon, Get, Temperature, Pressure}
 
 abbrev pub alone : List ℕ → Option Command
 alone w =

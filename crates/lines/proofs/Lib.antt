@@ -1,0 +1,5 @@
+pub mod Cuts
+pub mod Digits
+pub mod Names
+pub mod Lines
+pub mod Parted

@@ -1,0 +1,5 @@
+pub mod Words
+pub mod Tokens
+pub mod Numbers
+pub mod Commands
+pub mod Answers
