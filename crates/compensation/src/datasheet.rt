@@ -1,6 +1,6 @@
 // The worked example of the chip's datasheet.
 ghost use Rattle.std.specs.Prelude.{◌≡◌};
-ghost use Rattle.compensation.specs.Figures.{example, CompensationFigures};
+ghost use Rattle.compensation.specs.Figures.{example, example_ut, example_up, CompensationFigures};
 
 use crate::calibration::Calibration;
 use crate::coefficients::Coefficients;
@@ -10,9 +10,11 @@ pub const UT: i32 = 27898;
 
 pub const UP: i32 = 23843;
 
-// The example's coefficients. The contract also says what the definitions of the formulas give for the example, value by value.
+// The example's coefficients. The contract also says which raw values go with them, and what the definitions of the formulas give for the
+// example, value by value.
 pub fn example_calibration() -> Calibration
     ensures coefficients { result.values ≡ example }
+    ensures raw_values { (UT ≡ example_ut) × (UP ≡ example_up) }
     ensures figures { CompensationFigures }
 {
     Calibration {

@@ -1,12 +1,16 @@
 -- Keys and values side by side: lengths, places, an insertion and a replacement.
-use Rattle.std.proofs.Common.{◌≡◌, ℕ, zero, suc, ◌+◌, ◌<◌, ◌≤◌, List, [], ◌∷◌, map, length, get_or, take, set, ℤ, pos, sym, refl, ap, ◌∙◌, cond, ltb, Some, None, arith}
+use Rattle.std.proofs.Common.{◌≡◌, ℕ, zero, suc, ◌+◌, ◌<◌, ◌≤◌, List, [], ◌∷◌, map, length, get_or, take, set, ℤ, pos, sym, refl, ap, ◌∙◌, cond, ltb, Option, Some, None, arith}
 use Rattle.std.specs.List.{insert, slice_get}
 use Rattle.std.proofs.lemmas.List.{length-take-le, get_or-take}
 use Rattle.std.proofs.lemmas.Option.{slice_get-get_or, slice_get_past}
 use Rattle.std.proofs.lemmas.Bool.{cond_both, ltb-true, ltb-false}
 use Rattle.layout.specs.Catalogue.{pair_of}
-use Rattle.layout.specs.PairLists.{no_pair, paired, listed}
+use Rattle.layout.specs.PairLists.{paired, listed}
 use Rattle.layout.specs.declared.meanings.Pair.{Pair}
+
+-- what stands for the pair at a place that is past the end
+abbrev pub no_pair : Pair
+no_pair = pair_of 0 (pos 0)
 
 abbrev pub keys_of : List Pair → List ℕ
 keys_of ps = map (λ (p : Pair). p.key) ps
@@ -62,10 +66,10 @@ module _ (ks : List ℕ) (vs : List ℤ) (n : ℕ) (hk : n ≤ length ks) (hv : 
       let y = get_or-take n vs i (pos 0) b in
       get_or_paired (take n ks) (take n vs) i (omega arith) (omega arith) ∙ (λ j. pair_of (x j) (y j))
 
-  pub slice_get_listed : (i : ℕ) → cond (ltb i n) (Some (pair_of (get_or ks i 0) (get_or vs i (pos 0)))) None ≡ slice_get (listed ks vs n) i
-  slice_get_listed i =
+  pub slice_get_listed : (i : ℕ) (o : Option Pair) → o ≡ cond (ltb i n) (Some (pair_of (get_or ks i 0) (get_or vs i (pos 0)))) None → o ≡ slice_get (listed ks vs n) i
+  slice_get_listed i o e =
       let l = length_listed in
-      cond_both (ltb i n) (Some (pair_of (get_or ks i 0) (get_or vs i (pos 0)))) None (λ o. o ≡ slice_get (listed ks vs n) i)
+      e ∙ cond_both (ltb i n) (Some (pair_of (get_or ks i 0) (get_or vs i (pos 0)))) None (λ o. o ≡ slice_get (listed ks vs n) i)
       (λ e. let b = ltb-true i n e in ap Some (sym (get_or_listed i b)) ∙ sym (slice_get-get_or (listed ks vs n) i no_pair (omega arith)))
       (λ e. sym (slice_get_past (listed ks vs n) i (omega (arith, ltb-false i n e))))
 

@@ -1,36 +1,13 @@
--- A table whose rows say what they should says it at each place; which pairs it admits, and which key it gives a name.
-use Rattle.std.proofs.Common.{◌≡◌, ℕ, zero, suc, ◌+◌, ◌<◌, Bool, true, false, cond, ◌&&◌, ◌||◌, ◌==◌, ltb, leb, List, [], ◌∷◌, map, length, get_or, Some, Option, option_map, sym, refl, ap, ◌∙◌, le_of_suc-le-suc, not-suc-le-zero, add-zero, add-suc, suc-add, add-one, arith}
+-- A table whose rows say what they should: which pairs it admits, which key it gives a name, and which name a key.
+use Rattle.std.proofs.Common.{◌≡◌, ℕ, suc, ◌+◌, Bool, true, false, cond, ◌&&◌, ◌||◌, ◌==◌, ltb, leb, List, [], ◌∷◌, map, length, Some, Option, option_map, sym, refl, ap, ◌∙◌, add-one, arith}
 use Rattle.std.proofs.lemmas.Bool.Decides.{nat_tests}
 use Rattle.std.specs.Option.{option_map_or}
 use Rattle.std.specs.Str.{bytes_eq}
 use Rattle.std.specs.List.{list_any, find}
-use Rattle.layout.specs.Catalogue.{limits, names, within, key_from, name_from}
-use Rattle.layout.specs.Rows.{RowText, limits_of, row_says, rows_from, RowSays}
+use Rattle.layout.specs.Catalogue.{limits, in_limits, key_from, name_from}
+use Rattle.layout.specs.Rows.{limits_of, row_says, rows_from}
 use Rattle.layout.specs.declared.catalogue.Row.{Row}
 use Rattle.layout.specs.declared.meanings.Pair.{Pair}
-
-sentence : ℕ → List ℕ → RowText
-sentence k n = (k, n, limits k)
-
-rows_from_at : (k : ℕ) (ns : List (List ℕ)) (i : ℕ) (d : RowText) → i < length ns →
-    get_or (rows_from k ns) i d ≡ sentence (suc (k + i)) (get_or ns i [])
-unfolding sentence
-rows_from_at k [] i d h = absurd (not-suc-le-zero h)
-rows_from_at k (n ∷ ns) zero d h = ap (λ m. sentence (suc m) n) (sym (add-zero k))
-rows_from_at k (n ∷ ns) (suc i) d h =
-    rows_from_at (suc k) ns i d (le_of_suc-le-suc h) ∙ ap (λ m. sentence (suc m) (get_or ns i [])) (suc-add k i ∙ sym (add-suc k i))
-
-row_says_at : (rows : List Row) (i : ℕ) (d : Row) → row_says (get_or rows i d) ≡ get_or (map row_says rows) i (row_says d)
-row_says_at [] i d = refl
-row_says_at (r ∷ rs) zero d = refl
-row_says_at (r ∷ rs) (suc i) d = row_says_at rs i d
-
-pub row_rule : (rows : List Row) (d : Row) → map row_says rows ≡ rows_from 0 names → (i : ℕ) → i < 13 → RowSays i (get_or rows i d)
-unfolding sentence
-row_rule rows d all i h =
-    let p : suc (0 + i) ≡ i + 1 = omega arith in
-    row_says_at rows i d ∙ ap (λ xs. get_or xs i (row_says d)) all ∙ rows_from_at 0 names i (row_says d) h
-    ∙ ap (λ n. sentence n (get_or names i [])) p
 
 -- of the keys after k the first, or one of the n behind it
 one_of : (w : ℕ → Bool) (k n q : ℕ) →
@@ -38,18 +15,18 @@ one_of : (w : ℕ → Bool) (k n q : ℕ) →
 one_of w k n q = grind (arith, nat_tests)
 
 pub rows_admit : (rows : List Row) (k : ℕ) (ns : List (List ℕ)) (p : Pair) → map row_says rows ≡ rows_from k ns →
-    list_any (λ (r : Row). r.key == p.key && within (limits_of r.limits) p.value) rows
-    ≡ (ltb k p.key && leb p.key (k + length ns) && within (limits p.key) p.value)
+    list_any (λ (r : Row). r.key == p.key && in_limits (limits_of r.limits) p.value) rows
+    ≡ (ltb k p.key && leb p.key (k + length ns) && in_limits (limits p.key) p.value)
 rows_admit [] k [] p e = grind (arith, nat_tests)
 rows_admit [] k (n ∷ ns) p e = cc
 rows_admit (r ∷ rs) k [] p e = cc
 rows_admit (r ∷ rs) k (n ∷ ns) p e =
     let first : row_says r ≡ (suc k, n, limits (suc k)) = cc in
-    let others = list_any (λ (r : Row). r.key == p.key && within (limits_of r.limits) p.value) rs in
-    ap (λ j. j == p.key && within (limits_of r.limits) p.value || others) (ap (λ s. s.0) first)
-    ∙ ap (λ l. suc k == p.key && within l p.value || others) (ap (λ s. s.2) first)
-    ∙ ap (λ b. suc k == p.key && within (limits (suc k)) p.value || b) (rows_admit rs (suc k) ns p cc)
-    ∙ one_of (λ q. within (limits q) p.value) k (length ns) p.key
+    let others = list_any (λ (r : Row). r.key == p.key && in_limits (limits_of r.limits) p.value) rs in
+    ap (λ j. j == p.key && in_limits (limits_of r.limits) p.value || others) (ap (λ s. s.0) first)
+    ∙ ap (λ l. suc k == p.key && in_limits l p.value || others) (ap (λ s. s.2) first)
+    ∙ ap (λ b. suc k == p.key && in_limits (limits (suc k)) p.value || b) (rows_admit rs (suc k) ns p cc)
+    ∙ one_of (λ q. in_limits (limits q) p.value) k (length ns) p.key
 
 key_of_first : (b : Bool) (r : Row) (o : Option Row) →
     option_map_or (λ (r : Row). r.key) (cond b (Some r) o) 0 ≡ cond b r.key (option_map_or (λ (r : Row). r.key) o 0)

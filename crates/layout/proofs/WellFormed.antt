@@ -5,7 +5,7 @@ use lib.Signed.{le_z, mag}
 use Rattle.std.proofs.lemmas.Int.{ints}
 use Rattle.std.proofs.lemmas.Bool.Decides.{nat_tests}
 use Rattle.std.proofs.lemmas.Bool.{and_parts, and_from, lt-ltb, leb-true, ltb-true, ltb-false, eqb-true, eqb-false, cond_both}
-use Rattle.layout.specs.Catalogue.{Limits, limits, limits_by, signed_key, unsigned_key, is_key, within, admits}
+use Rattle.layout.specs.Catalogue.{Limits, limits, limits_by, signed_key, unsigned_key, is_key, in_limits, admits}
 use Rattle.layout.specs.PairLists.{rising_above, rising, all_admitted, well_formed, with_pair, merged}
 use Rattle.layout.specs.declared.meanings.Pair.{Pair}
 
@@ -69,7 +69,7 @@ admitted_at (p ∷ ps) (suc i) d h t = admitted_at ps i d (omega arith) (and_par
 pub key_bounds : (p : Pair) → admits p ≡ true → (1 ≤ p.key) × (p.key ≤ 13)
 unfolding admits
 key_bounds p a =
-    let t = and_parts (leb 1 p.key) (leb p.key 13) (and_parts (is_key p.key) (within (limits p.key) p.value) a).0 in
+    let t = and_parts (leb 1 p.key) (leb p.key 13) (and_parts (is_key p.key) (in_limits (limits p.key) p.value) a).0 in
     (leb-true 1 p.key t.0, leb-true p.key 13 t.1)
 
 -- so there are at most 13 rising keys
@@ -121,7 +121,7 @@ unfolding admits
 admits_fits p a =
     let v = p.value in
     let k = p.key in
-    let t = and_parts (is_key k) (within (limits k) v) a in
+    let t = and_parts (is_key k) (in_limits (limits k) v) a in
     let u = and_parts (le_z (limits k).low v && le_z v (limits k).high) _ t.1 in
     let w = and_parts (le_z (limits k).low v) (le_z v (limits k).high) u.0 in
     between v (limits k) (limits_small k) w.0 w.1

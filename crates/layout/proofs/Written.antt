@@ -1,5 +1,5 @@
 -- A value that says something is the one that is written for it.
-use Rattle.std.proofs.Common.{◌≡◌, ℕ, ◌/◌, ◌%◌, ◌^◌, ◌<◌, Bool, true, cond, eqb, leb, sym, ap, ◌∙◌, subst, arith, w32, to_z}
+use Rattle.std.proofs.Common.{◌≡◌, ℕ, ◌/◌, ◌%◌, ◌^◌, ◌<◌, Bool, true, cond, eqb, leb, sym, ap, ◌∙◌, subst, arith, w32, SFits, to_z, of_z}
 use Rattle.std.proofs.lemmas.Int.{of_z-to_z}
 use Rattle.std.proofs.lemmas.Bool.{eqb-true, cond_both}
 use Rattle.layout.specs.Contents.{content, sealed, crc_of}
@@ -8,6 +8,7 @@ use Rattle.layout.specs.declared.meanings.Meaning.TheVariants.{Record, Commit, H
 use Rattle.layout.specs.declared.meanings.Meaning.{Meaning}
 use Rattle.layout.specs.declared.meanings.Pair.{Pair}
 use Rattle.layout.specs.Catalogue.{pair_of, admits}
+use Rattle.layout.proofs.Decoding.{decoded_record, decoded_commit, decoded_header}
 
 -- the value that is written for what is said
 abbrev Written : ℕ → Meaning → Type 0
@@ -48,11 +49,27 @@ written v =
     written_cond v (eqb (crc_of (v / 65536)) (v % 65536)) (content_meaning (v / 65536)) Noise
     (λ h. written_content v (v / 65536) (sealed_back v (eqb-true (crc_of (v / 65536)) (v % 65536) h))) tt
 
-pub only_record : (p : Pair) (v : ℕ) → decoded v ≡ Record p → v ≡ record_value p
-only_record p v e = subst (λ m. Written v m) e (written v)
+-- what a sealed content says, and that no other value says the same
+pub said_record : (v : ℕ) (p : Pair) → v ≡ sealed (content 0x52 p.key (of_z w32 p.value)) → p.key < 256 → SFits w32 p.value → decoded v ≡ as_record p
+unfolding record_value
+said_record v p e hk hz = ap decoded e ∙ decoded_record p hk hz
 
-pub only_commit : (c n v : ℕ) → decoded v ≡ Commit c n → v ≡ commit_value c n
-only_commit c n v e = subst (λ m. Written v m) e (written v)
+pub only_record : (u v w : ℕ) (p : Pair) → decoded v ≡ Record p → u ≡ sealed (content 0x52 p.key w) → w ≡ of_z w32 p.value → v ≡ u
+unfolding record_value
+only_record u v w p d e f = subst (λ m. Written v m) d (written v) ∙ ap (λ x. sealed (content 0x52 p.key x)) (sym f) ∙ sym e
 
-pub only_header : (c n v : ℕ) → decoded v ≡ Header c n → v ≡ header_value c n
-only_header c n v e = subst (λ m. Written v m) e (written v)
+pub said_commit : (v k n : ℕ) → v ≡ sealed (content 0x43 k n) → k < 256 → n < 2 ^ 32 → decoded v ≡ as_commit k n
+unfolding commit_value
+said_commit v k n e hk hn = ap decoded e ∙ decoded_commit k n hk hn
+
+pub only_commit : (u v k n : ℕ) → decoded v ≡ Commit k n → u ≡ sealed (content 0x43 k n) → v ≡ u
+unfolding commit_value
+only_commit u v k n d e = subst (λ m. Written v m) d (written v) ∙ sym e
+
+pub said_header : (v k n : ℕ) → v ≡ sealed (content 0x48 k n) → k < 256 → n < 2 ^ 32 → decoded v ≡ as_header k n
+unfolding header_value
+said_header v k n e hk hn = ap decoded e ∙ decoded_header k n hk hn
+
+pub only_header : (u v k n : ℕ) → decoded v ≡ Header k n → u ≡ sealed (content 0x48 k n) → v ≡ u
+unfolding header_value
+only_header u v k n d e = subst (λ m. Written v m) d (written v) ∙ sym e

@@ -35,15 +35,16 @@ abbrev pub is_hole : ℤ → Bool
 is_hole (pos n) = n == 0
 is_hole (negsuc n) = n == 0
 
-abbrev pub within : Limits → ℤ → Bool
-within l z = (int_le l.low z && int_le z l.high) && not (l.hole && is_hole z)
+-- the limits admit the value
+abbrev pub in_limits : Limits → ℤ → Bool
+in_limits l z = (int_le l.low z && int_le z l.high) && not (l.hole && is_hole z)
 
 abbrev pub pair_of : ℕ → ℤ → Pair
 pair_of k v = record { key = k; value = v }
 
 -- the catalogue has the pair's key and admits its value
 unfoldable pub admits : Pair → Bool
-admits p = is_key p.key && within (limits p.key) p.value
+admits p = is_key p.key && in_limits (limits p.key) p.value
 
 -- the names of the keys 1 to 13
 abbrev pub names : List (List ℕ)

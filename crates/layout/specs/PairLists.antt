@@ -1,11 +1,7 @@
 -- Lists of pairs of a key and a value.
-use Rattle.std.specs.Prelude.{◌≡◌, ℕ, Bool, true, cond, ◌&&◌, List, [], ◌∷◌, take, ℤ, pos, Some, None, fold, Option, ◌==◌, nat_lt}
-use Rattle.std.specs.List.{prefix_len}
+use Rattle.std.specs.Prelude.{◌≡◌, ℕ, Bool, true, cond, ◌&&◌, List, [], ◌∷◌, take, ℤ, Some, None, fold, Option, ◌==◌, nat_lt}
 use Rattle.layout.specs.Catalogue.{pair_of, admits}
 use Rattle.layout.specs.declared.meanings.Pair.{Pair}
-
-abbrev pub no_pair : Pair
-no_pair = pair_of 0 (pos 0)
 
 -- keys and values side by side
 abbrev pub paired : List ℕ → List ℤ → List Pair
@@ -33,10 +29,6 @@ all_admitted (p ∷ ps) = admits p && all_admitted ps
 -- rising keys, each once, and admitted values only
 abbrev pub well_formed : List Pair → Bool
 well_formed ps = rising ps && all_admitted ps
-
--- how many keys stand before the place of a key
-abbrev pub place_of : ℕ → List ℕ → ℕ
-place_of key ks = prefix_len (λ k. nat_lt k key) ks
 
 -- the value of a key
 abbrev pub value_of : List Pair → ℕ → Option ℤ

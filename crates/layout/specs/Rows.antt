@@ -1,6 +1,6 @@
--- What the rows of the catalogue's table say.
-use Rattle.std.specs.Prelude.{◌≡◌, ℕ, suc, ◌+◌, List, [], ◌∷◌, slice_index_or}
-use Rattle.layout.specs.Catalogue.{Limits, limits, names}
+-- What the rows of the catalogue's table say: for the contracts within this crate alone, which hold the table against the catalogue.
+use Rattle.std.specs.Prelude.{ℕ, suc, List, [], ◌∷◌}
+use Rattle.layout.specs.Catalogue.{Limits, limits}
 use Rattle.layout.specs.declared.catalogue.Limits.{Limits as RowLimits}
 use Rattle.layout.specs.declared.catalogue.Row.{Row}
 
@@ -19,7 +19,3 @@ row_says r = (r.key, r.name.now, limits_of r.limits)
 abbrev pub rows_from : ℕ → List (List ℕ) → List RowText
 rows_from k [] = []
 rows_from k (n ∷ ns) = (suc k, n, limits (suc k)) ∷ rows_from (suc k) ns
-
--- the row at a place says the key, its name and its limits
-abbrev pub RowSays : ℕ → Row → Type 0
-RowSays place r = row_says r ≡ (place + 1, slice_index_or names place [], limits (place + 1))

@@ -1,9 +1,9 @@
 // The catalogue: the keys of coefficients and settings, their names, and which values each admits.
-ghost use Rattle.std.specs.Prelude.{◌≡◌, ℕ, ◌==◌, ◌&&◌, ◌<◌, map, slice_index_or};
+ghost use Rattle.std.specs.Prelude.{◌≡◌, ◌==◌, ◌&&◌, map};
 ghost use Rattle.std.specs.Option.{option_map};
 ghost use Rattle.layout.specs.declared.catalogue.Row.{Row};
-ghost use Rattle.layout.specs.Catalogue.{names, is_key, key_named, is_hole, within, admits as admitted, name_of, NamesTellKeys};
-ghost use Rattle.layout.specs.Rows.{limits_of, row_says, rows_from, RowSays};
+ghost use Rattle.layout.specs.Catalogue.{names, is_key, key_named, is_hole, in_limits, admits as admitted, name_of, NamesTellKeys};
+ghost use Rattle.layout.specs.Rows.{limits_of, row_says, rows_from};
 
 use crate::meanings::Pair;
 
@@ -121,7 +121,7 @@ const CATALOGUE: [Row; 13] = [
 
 impl Limits {
     fn admit(&self, value: i32) -> bool
-        ensures { result ≡ within (limits_of self.now) value }
+        ensures { result ≡ in_limits (limits_of self.now) value }
     {
         (self.low..=self.high).contains(&value) && !(self.hole && is_hole(value))
     }
@@ -129,7 +129,7 @@ impl Limits {
 
 impl Row {
     fn admits(&self, pair: Pair) -> bool
-        ensures { result ≡ (self.now.key == pair.key && within (limits_of self.now.limits) pair.value) }
+        ensures { result ≡ (self.now.key == pair.key && in_limits (limits_of self.now.limits) pair.value) }
     {
         self.key == pair.key && self.limits.admit(pair.value)
     }
@@ -141,10 +141,9 @@ fn is_hole(value: i32) -> bool
     value == 0 || value == -1
 }
 
-// The rows, and what they say: all together and each at its place.
+// The rows, and what they say.
 fn rows() -> &'static [Row]
-    ensures all { map row_says result.now ≡ rows_from 0 names }
-    ensures each { (place : ℕ) (d : Row) → place < 13 → RowSays place (slice_index_or result.now place d) }
+    ensures { map row_says result.now ≡ rows_from 0 names }
 {
     &CATALOGUE
 }

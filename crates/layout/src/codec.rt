@@ -46,6 +46,7 @@ fn seal(mark: u8, second: u8, word: u32) -> u64
 
 // The value that is written for a record. It is read back as the pair, if that is admitted, and no other value is.
 // kept: three functions, since each promises its own kind of unit; what they share is `seal`.
+#[tactic(auto, using(crate::proofs::Written::said_record, crate::proofs::Written::only_record), unfolding(crate::specs::Codec::record_value))]
 pub fn encode_record(pair: Pair) -> u64
     ensures value { result ≡ record_value pair }
     ensures read_back { decoded result ≡ as_record pair }
@@ -55,6 +56,7 @@ pub fn encode_record(pair: Pair) -> u64
 }
 
 // The value that is written for a commit; the same holds of it.
+#[tactic(auto, using(crate::proofs::Written::said_commit, crate::proofs::Written::only_commit), unfolding(crate::specs::Codec::commit_value))]
 pub fn encode_commit(count: u8, number: u32) -> u64
     ensures value { result ≡ commit_value count number }
     ensures read_back { decoded result ≡ as_commit count number }
@@ -64,6 +66,7 @@ pub fn encode_commit(count: u8, number: u32) -> u64
 }
 
 // The value that is written for a header; the same holds of it.
+#[tactic(auto, using(crate::proofs::Written::said_header, crate::proofs::Written::only_header), unfolding(crate::specs::Codec::header_value))]
 pub fn encode_header(count: u8, number: u32) -> u64
     ensures value { result ≡ header_value count number }
     ensures read_back { decoded result ≡ as_header count number }

@@ -6,6 +6,7 @@ ghost use Rattle.layout.specs.PairLists.{merged as laid_over, LookupLaws};
 use crate::pairs::Pairs;
 
 // The pairs of the first, with those of the second laid over them.
+#[tactic(auto, using(crate::proofs::Lookups::lookup_laws))]
 pub fn merged(base: &Pairs, change: &Pairs) -> Pairs
     ensures pairs { pairs_of result ≡ laid_over (pairs_of base.now) (pairs_of change.now) }
     ensures lookups { LookupLaws }

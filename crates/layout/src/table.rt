@@ -1,9 +1,9 @@
 // Keys and values side by side in two arrays of 13 places, of which the first `len` are in use.
 // kept: two arrays, a length and no invariant of its own, the project's form of a list of pairs (docs/DECISIONS.md); so each method that needs `len ≤ 13` asks for it.
-ghost use Rattle.std.specs.Prelude.{◌≡◌, ◌+◌, ◌-◌, ◌<◌, ◌≤◌, [], length, take, slice_set};
-ghost use Rattle.std.specs.List.{insert, slice_get};
+ghost use Rattle.std.specs.Prelude.{◌≡◌, ◌+◌, ◌-◌, ◌<◌, ◌≤◌, [], length, nat_lt, take, slice_set};
+ghost use Rattle.std.specs.List.{insert, prefix_len, slice_get};
 ghost use Rattle.layout.specs.Held.{pairs_left};
-ghost use Rattle.layout.specs.PairLists.{place_of, value_of, with_pair};
+ghost use Rattle.layout.specs.PairLists.{value_of, with_pair};
 ghost use Rattle.layout.specs.Tables.{pairs_in};
 
 use crate::iter::PairsIter;
@@ -47,7 +47,7 @@ impl Table {
     // kept: no `partition_point`: its answer needs rising keys, a premise that the table does not have and `place` and `lay` would have to ask for.
     pub(crate) fn place(&self, key: u8) -> usize
         requires { self.now.len ≤ 13 }
-        ensures { result ≡ place_of key (take self.now.len self.now.keys) }
+        ensures { result ≡ prefix_len (λ k. nat_lt k key) (take self.now.len self.now.keys) }
     {
         self.keys[..self.len]
             .iter()
@@ -77,6 +77,7 @@ impl Table {
         self.len += 1;
     }
 
+    #[tactic(auto, using(crate::proofs::Paired::paired_set))]
     pub(crate) fn replace(&mut self, at: usize, pair: Pair)
         requires within { at < self.old.len }
         requires fits { self.old.len ≤ 13 }
@@ -88,6 +89,7 @@ impl Table {
     }
 
     // How many pairs there are.
+    #[tactic(auto, using(crate::proofs::Paired::length_listed))]
     pub(crate) fn count(&self) -> usize
         requires { self.now.len ≤ 13 }
         ensures pairs { result ≡ length (pairs_in self.now) }
@@ -97,6 +99,7 @@ impl Table {
     }
 
     // The pair at a place.
+    #[tactic(auto, using(crate::proofs::Paired::slice_get_listed))]
     pub(crate) fn at(&self, i: usize) -> Option<Pair>
         requires { self.now.len ≤ 13 }
         ensures { result ≡ slice_get (pairs_in self.now) i }

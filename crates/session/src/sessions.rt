@@ -4,7 +4,6 @@ ghost use Rattle.lines.specs.declared.answers.Answer.TheVariants.{Number};
 ghost use Rattle.lines.specs.declared.commands.Command.TheVariants.{Plan, Format, Recover, Begin, Put, Commit, Abandon, Get, Temperature, Pressure};
 ghost use Rattle.lines.specs.Commands.{command_of as command_in_line};
 ghost use Rattle.session.specs.Sessions.{Answered, Carried, LetGo, answer_of, refused};
-ghost use Rattle.simulator.specs.SimulatorStates.{state_of};
 ghost use Rattle.store.specs.Moments.{moment};
 ghost use Rattle.session.specs.Held.{session};
 
@@ -52,7 +51,7 @@ impl Session {
     // A session on a store, with no change and no step held.
     pub fn new(store: Store<Simulator>) -> Session
         ensures store { (session result).store ≡ moment ⟦<Simulator as Flash>⟧ store }
-        ensures plan { (session result).plan ≡ (state_of store.flash).plan }
+        ensures flash { result.store.flash ≡ store.flash }
         ensures ticket { (session result).ticket ≡ None }
         ensures step { (session result).step ≡ None }
     {
@@ -220,7 +219,8 @@ impl Session {
 
     // Ends the session: a change that is held is abandoned.
     pub fn finish(self) -> Store<Simulator>
-        ensures { LetGo (session self).ticket (session self).store (moment ⟦<Simulator as Flash>⟧ result) }
+        ensures abandoned { LetGo (session self).ticket (session self).store (moment ⟦<Simulator as Flash>⟧ result) }
+        ensures flash { result.flash ≡ self.store.flash }
     {
         let Session {
             mut store,

@@ -13,5 +13,6 @@ unfolding floor_div x1_of x2_of t_of samples_of s_of x3_of b3_of y3_of b4_of b7_
 returns c =
     record {
       coefficients = refl;
+      raw_values = (refl, refl);
       figures = record { temperature = refl; pressure = refl; hottest = refl; coldest = refl; too_hot = refl; too_cold = refl };
     }

@@ -5,7 +5,8 @@ use Rattle.std.proofs.lemmas.Bool.{cond-true}
 use Rattle.layout.proofs.WellFormed.{admitted_at, admits_fits}
 use Rattle.layout.specs.declared.meanings.Pair.{Pair}
 use Rattle.layout.specs.Held.{pairs_of}
-use Rattle.layout.specs.PairLists.{no_pair, with_pair, merged, all_admitted}
+use Rattle.layout.specs.PairLists.{with_pair, merged, all_admitted}
+use Rattle.layout.proofs.Paired.{no_pair}
 use Rattle.layout.specs.Catalogue.{admits, pair_of}
 use Rattle.readings.specs.Gathered.{coefficients_of}
 use Rattle.compensation.specs.Division.{floor_div}

@@ -15,4 +15,4 @@ returns c =
     let found = find_from_yields_List (λ (r : Row). bytes_eq r.name.now c.args.name.now) c.find.new.self _ c.find.result c.find.ensures.ran (YieldsList-from_slice c.rows.result.now cc) (λ x b q k. search (rules, tests)) in
     let key : c.map_or.result ≡ option_map_or (λ (r : Row). r.key) (option_map (λ r. r.now) c.find.result) 0 = search rules in
     key ∙ ap (λ o. option_map_or (λ (r : Row). r.key) o 0) found
-    ∙ rows_name c.rows.result.now 0 names c.args.name.now c.rows.ensures.all
+    ∙ rows_name c.rows.result.now 0 names c.args.name.now c.rows.ensures

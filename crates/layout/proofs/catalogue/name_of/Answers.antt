@@ -16,4 +16,4 @@ unfolding name_of
 returns c =
     let found = find_from_yields_List (λ (r : Row). r.key == c.args.key) c.find.new.self _ c.find.result c.find.ensures.ran (YieldsList-from_slice c.rows.result.now cc) (λ x b q k. search (rules, tests)) in
     let name : option_map (λ name. name.now) c.map.result ≡ option_map (λ (r : Row). r.name.now) (option_map (λ r. r.now) c.find.result) = search rules in
-    record { name = name ∙ ap (option_map (λ (r : Row). r.name.now)) found ∙ rows_key c.rows.result.now 0 names c.args.key c.rows.ensures.all; apart = apart }
+    record { name = name ∙ ap (option_map (λ (r : Row). r.name.now)) found ∙ rows_key c.rows.result.now 0 names c.args.key c.rows.ensures; apart = apart }

@@ -7,7 +7,7 @@ use Rattle.compensation.specs.Formulas.{pa_of}
 use Rattle.compensation.proofs.calibration.Calibration.pa.Goals as goal
 
 pub overflow_add-result-2 : goal.overflow_add-result-2
-overflow_add-result-2 c = let pcor = (bounds c.args.self.now).pcor in omega (arith, ints)
+overflow_add-result-2 c = let k = bounds c.args.self.now in omega (arith, ints, k)
 
 pub returns : goal.returns
 unfolding pa_of
