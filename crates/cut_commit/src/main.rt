@@ -5,6 +5,7 @@ use anyhow::Context;
 use flash::faults::{FlashFault, Place};
 use flash::interface::Flash;
 use flash::planned::Planned;
+use flash::plans::PlanEntry;
 use flash::units::Unit;
 use journal::reading::read_units;
 use journal::standing::Standing;
@@ -12,7 +13,6 @@ use journal::writers::{format_banks, write_change};
 use layout::codec::meaning;
 use layout::meanings::{Meaning, Pair};
 use layout::pairs::Pairs;
-use flash::plans::PlanEntry;
 use simulator::Simulator;
 use std::alloc::Global;
 

@@ -12,10 +12,6 @@ use Rattle.compensation.specs.declared.readings.ReadingRefusal.TheVariants.{Temp
 use Rattle.store.specs.Changes.{put_answer}
 use Rattle.mirror.specs.Mirrored.{mixed}
 
--- a key with its coefficient, as a pair
-abbrev pub pair_from : ℕ × ℤ → Pair
-pair_from p = pair_of p.0 p.1
-
 -- the datasheet's coefficients AC1 to MD as pairs, keys 1 to 11; OSS and PCOR are absent
 abbrev pub example_pairs : List Pair
 example_pairs =

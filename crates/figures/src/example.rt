@@ -1,7 +1,8 @@
 // The datasheet's coefficients as pairs of a store.
-ghost use Rattle.std.specs.Prelude.{◌≡◌, map};
+ghost use Rattle.std.specs.Prelude.{◌≡◌, ℕ, ℤ, map};
+ghost use Rattle.layout.specs.Catalogue.{pair_of};
 ghost use Rattle.layout.specs.Held.{pairs_of};
-ghost use Rattle.figures.specs.Figures.{pair_from, example_pairs, WorkedFigures};
+ghost use Rattle.figures.specs.Figures.{example_pairs, WorkedFigures};
 
 use compensation::datasheet::example_calibration;
 use layout::meanings::Pair;
@@ -9,7 +10,7 @@ use layout::pairs::Pairs;
 
 // The keys of AC1 to AC6, B1, B2, MB, MC and MD, each with the datasheet's coefficient.
 fn keyed_coefficients() -> [(u8, i64); 11]
-    ensures { map pair_from result ≡ example_pairs }
+    ensures { map (λ (p : ℕ × ℤ). pair_of p.0 p.1) result ≡ example_pairs }
 {
     let k = example_calibration().values();
     [

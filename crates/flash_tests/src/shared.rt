@@ -1,7 +1,7 @@
 // What the tests share.
 use flash::faults::FlashFault;
-use flash::units::Unit;
 use flash::plans::PlanEntry;
+use flash::units::Unit;
 use simulator::Simulator;
 use std::alloc::Global;
 use std::test::Fail;

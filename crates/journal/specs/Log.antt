@@ -1,4 +1,4 @@
--- How the code walks over a bank: by places, with a count of the valid records directly before.
+-- What can be read of a flash, and how the code walks over a bank: by places, with a count of the valid records directly before.
 use Rattle.std.specs.Prelude.{ℕ, ◌+◌, ◌-◌, cond, ◌&&◌, List, [], take, drop, Some, None, Option, ◌==◌, nat_le}
 use Rattle.flash.specs.FlashState.{FlashState}
 use Rattle.layout.specs.declared.meanings.Pair.{Pair}
@@ -15,8 +15,11 @@ use Rattle.journal.specs.declared.logs.Start.{Start}
 abbrev pub visible : FlashState → Banks
 visible s = cond s.on s.units []
 
+-- a standing, as a reading
 abbrev pub reading_of : Standing → Reading
 reading_of s = record { active = s.bank; pairs = pairs_of s.pairs; number = s.number; end = s.end }
+
+-- ---- the walk, for contracts of private functions alone
 
 -- the pairs of the c units at the front, if those are valid records with rising keys
 abbrev pub records_of : ℕ → List Meaning → Option (List Pair)

@@ -1,4 +1,4 @@
--- What a bank of a flash shows to a reader.
+-- What a bank of a flash shows to a reader, for contracts of private functions alone.
 use Rattle.std.specs.Prelude.{List}
 use Rattle.flash.specs.declared.interface.Flash.{Ghosts}
 use Rattle.flash.specs.declared.units.Unit.{Unit as Cell}

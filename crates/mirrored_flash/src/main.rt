@@ -5,10 +5,10 @@ use anyhow::Context;
 use flash::faults::FlashFault;
 use flash::interface::Flash;
 use flash::planned::Planned;
+use flash::plans::PlanEntry;
 use flash::units::Unit;
 use image::Image;
 use mirror::Mirror;
-use flash::plans::PlanEntry;
 use simulator::Simulator;
 use std::alloc::Global;
 

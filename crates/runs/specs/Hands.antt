@@ -1,4 +1,4 @@
--- A run's tables, seen as what it holds.
+-- A run's tables, seen as what it holds, for contracts of private functions alone.
 use Rattle.std.specs.Prelude.{ℕ, suc, ◌+◌, ◌≤◌, vec_items, vec_len, vec_capacity}
 use Rattle.std.specs.VecDeque.{deque_items, deque_len, deque_capacity}
 use Rattle.runs.specs.Held.{Held, held, ticket_numbers, step_numbers}

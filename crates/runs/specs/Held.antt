@@ -17,6 +17,7 @@ held tickets steps = record { tickets = tickets; steps = steps }
 abbrev pub nothing_held : Held
 nothing_held = held [] []
 
+-- the numbers of tickets and of steps themselves, for contracts of private functions alone
 abbrev pub ticket_number : Ticket → ℕ
 ticket_number t = t.number
 
@@ -41,6 +42,7 @@ abbrev pub without : ℕ → List ℕ → List ℕ
 without j [] = []
 without j (x ∷ xs) = cond (x == j) xs (x ∷ without j xs)
 
+-- what looking for a ticket and taking one out answer, for contracts of private functions alone
 abbrev pub Seen : List ℕ → ℕ → Option (Bor Ticket) → Type 0
 Seen hs j None = has j hs ≡ false
 Seen hs j (Some t) = (has j hs ≡ true) × (t.now.number ≡ j)
@@ -49,7 +51,7 @@ abbrev pub Taken : List ℕ → ℕ → Option Ticket → List ℕ → Type 0
 Taken hs j None ks = (has j hs ≡ false) × (ks ≡ hs)
 Taken hs j (Some t) ks = (has j hs ≡ true) × (t.number ≡ j) × (ks ≡ without j hs)
 
--- ---- steps by their places
+-- ---- steps by their places, for contracts of private functions alone
 
 abbrev pub StepTaken : List (Option StepNumbers) → ℕ → Option Step → List (Option StepNumbers) → Type 0
 StepTaken ss i None ks = (slice_index_or ss i None ≡ None) × (ks ≡ ss)

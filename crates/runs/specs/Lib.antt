@@ -1,3 +1,4 @@
 pub mod Held
 pub mod Hands
 pub mod Runs
+pub mod Flashes

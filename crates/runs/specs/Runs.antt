@@ -162,7 +162,7 @@ pub record RunMade (m : Moment) (requests : List Request) (log : List (Option En
   -- so a further run begins where this one ended
   pub ends : (first : ℕ) (past : List Entry) → Agrees first past m → Agrees first (past_after log past) m'
 
--- what some requests added to a log
+-- what some requests added to a log, for contracts of private functions alone
 pub record Made (m : Moment) (h : Held) (requests : List Request) (before after : List (Option Entry)) (m' : Moment) (h' : Held) : Type 0 where
   pub links : List Link
   pub asked : map request_in links ≡ requests

@@ -7,6 +7,7 @@ ghost use Rattle.runs.specs.declared.requests.Request.TheVariants.{Begin, Temper
 ghost use Rattle.runs.specs.Hands.{held_by, Spare, OneMore};
 ghost use Rattle.runs.specs.Held.{held};
 ghost use Rattle.runs.specs.Runs.{Turn, Made, RunMade, abandoning};
+ghost use Rattle.runs.specs.Flashes.{CallOnFlash, Through, Onward};
 
 use crate::hands::Hand;
 use crate::requests::Request;
@@ -21,6 +22,7 @@ use store::stores::Store;
 fn begin<F: Flash>(store: &mut Store<F>, hand: &mut Hand) -> Result<u32, Refusal>
     requires { Spare 1 hand.old }
     ensures turn { Turn (moment F.Flash store.old) (held_by hand.old) Begin (Some (begun result)) (moment F.Flash store.new) (held_by hand.new) }
+    ensures flash { store.new.flash ≡ store.old.flash }
     ensures room { OneMore hand.old hand.new }
 {
     Ok(hand.keep(store.begin()?))
@@ -34,6 +36,7 @@ fn temperature<F: Flash>(
 ) -> Result<StepNumbers, Refusal>
     requires { Spare 1 hand.old }
     ensures turn { Turn (moment F.Flash store.old) (held_by hand.old) (Temperature ut) (Some (took_temperature ut result)) (moment F.Flash store.new) (held_by hand.new) }
+    ensures flash { store.new.flash ≡ store.old.flash }
     ensures room { OneMore hand.old hand.new }
 {
     Ok(hand.keep_step(store.temperature(ut)?))
@@ -42,6 +45,7 @@ fn temperature<F: Flash>(
 // Takes a pressure with the step at a place, if it is held.
 fn pressure<F: Flash>(store: &mut Store<F>, hand: &mut Hand, place: usize, up: i32) -> Option<Entry>
     ensures turn { Turn (moment F.Flash store.old) (held_by hand.old) (Pressure place up) result (moment F.Flash store.new) (held_by hand.new) }
+    ensures flash { store.new.flash ≡ store.old.flash }
     ensures room { OneMore hand.old hand.new }
 {
     let taken = hand.take_step(place)?;
@@ -56,6 +60,7 @@ fn pressure<F: Flash>(store: &mut Store<F>, hand: &mut Hand, place: usize, up: i
 fn turn<F: Flash>(store: &mut Store<F>, hand: &mut Hand, request: Request) -> Option<Entry>
     requires { Spare 1 hand.old }
     ensures turn { Turn (moment F.Flash store.old) (held_by hand.old) request result (moment F.Flash store.new) (held_by hand.new) }
+    ensures flash { CallOnFlash F.Flash store.old.flash result store.new.flash }
     ensures room { OneMore hand.old hand.new }
 {
     let entry = match request {
@@ -104,6 +109,7 @@ fn take_up<F: Flash>(
     requires hand { Spare (length requests.now) hand.old }
     requires log { vec_len log.old + length requests.now ≤ vec_capacity log.old }
     ensures made { Made (moment F.Flash store.old) (held_by hand.old) requests.now log.old.items log.new.items (moment F.Flash store.new) (held_by hand.new) }
+    ensures flash { Onward F.Flash log.old.items store.old.flash log.new.items store.new.flash }
     ensures len { vec_len log.new ≡ vec_len log.old + length requests.now }
     ensures room { vec_capacity log.new ≡ vec_capacity log.old }
     ensures few { deque_len hand.new.tickets ≤ deque_len hand.old.tickets + length requests.now }
@@ -118,6 +124,7 @@ fn take_up<F: Flash>(
 fn abandon_each<F: Flash>(store: &mut Store<F>, hand: &mut Hand, log: &mut Vec<Option<Entry>>)
     requires log { vec_len log.old + deque_len hand.old.tickets ≤ vec_capacity log.old }
     ensures made { Made (moment F.Flash store.old) (held_by hand.old) (map abandoning (held_by hand.old).tickets) log.old.items log.new.items (moment F.Flash store.new) (held [] (held_by hand.old).steps) }
+    ensures flash { Onward F.Flash log.old.items store.old.flash log.new.items store.new.flash }
     ensures none { deque_len hand.new.tickets ≡ 0 }
 {
     while let Some(ticket) = hand.tickets.pop_front() {
@@ -139,7 +146,8 @@ pub fn make_calls<F: Flash>(
     requests: &[Request],
     room: Room,
 ) -> Vec<Option<Entry>>
-    ensures { RunMade (moment F.Flash store.old) (take room.most requests.now) result.items (moment F.Flash store.new) }
+    ensures run { RunMade (moment F.Flash store.old) (take room.most requests.now) result.items (moment F.Flash store.new) }
+    ensures flash { Through F.Flash store.old.flash result.items store.new.flash }
 {
     let Room {
         mut hand,

@@ -1,5 +1,5 @@
 -- The whole of a simulator at one moment, and what each call makes of it.
-use Rattle.std.specs.Prelude.{ℕ, ◌+◌, ◌-◌, ◌*◌, Bool, true, false, List, length, take, drop, replicate, vec_items, slice_index_or, slice_set}
+use Rattle.std.specs.Prelude.{ℕ, ◌+◌, ◌-◌, ◌*◌, Bool, true, false, List, take, drop, replicate, vec_items, slice_index_or, slice_set}
 use Rattle.flash.specs.declared.units.Unit.{Unit as Cell}
 use Rattle.flash.specs.declared.units.Unit.TheVariants.{Blank, Programmed}
 use Rattle.flash.specs.FlashState.{FlashState, flash_state}

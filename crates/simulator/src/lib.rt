@@ -8,5 +8,5 @@ pub mod simulators;
 
 pub use shapes::{ShapeFault, check_shape};
 pub use simulator_faults::SimulatorFault;
-pub use simulators::makes::NotMade;
 pub use simulators::Simulator;
+pub use simulators::makes::NotMade;

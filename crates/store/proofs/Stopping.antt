@@ -11,7 +11,12 @@ use Rattle.journal.specs.Commit.{commit_writes, formatting}
 use Rattle.journal.specs.Outcomes.{CutShort, WholeOrAbsentAfter, EmptyAfter}
 use Rattle.store.specs.declared.refusals.Refusal.{Refusal}
 use Rattle.store.specs.declared.refusals.Refusal.TheVariants.{WriteStopped}
-use Rattle.store.specs.Stops.{Stop, stops, as_stop, refused_at, FormatWrites, CommitRun}
+use Rattle.store.specs.Stops.{Stop, stops, refused_at, FormatWrites, CommitRun}
+
+-- a result of the flash by what its fault gives
+abbrev pub as_stop : {A F : Type 0} → FaultGhosts F → Result A F → Result A Stop
+as_stop t (Ok x) = Ok x
+as_stop t (Err e) = Err (t.number e, t.place e)
 
 module _ {F : Type 0} (t : FaultGhosts F) where
   abbrev given : F → Stop

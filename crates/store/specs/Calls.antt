@@ -138,7 +138,7 @@ get_answer ps key = cond (is_key key) (Ok (value_of ps key)) (Err UnknownKey)
 
 -- ---- all calls
 
--- by the event that the store judges
+-- by the event that the store judges; the private match on phase and event alone has this in its contract, no call
 abbrev pub Judged : Moment → Event → Result ℕ Refusal → Moment → Type 0
 Judged m Format r m' = Formats m r m'
 Judged m Recover r m' = Recovers m r m'

@@ -43,7 +43,7 @@ CommitsFlash g f (Ok number) f' = g.plan f' ≡ g.plan f
 CommitsFlash g f (Err (WriteStopped place)) f' = g.plan f' ≡ g.plan f
 CommitsFlash g f (Err why) f' = f' ≡ f
 
--- by the event that the store judges; all others leave the flash just as it is
+-- by the event that the store judges; all others leave the flash just as it is. As `Judged`, this is of the private match alone.
 abbrev pub OnFlash : {X Y : Type 0} → Ghosts X Y → Event → X → Result ℕ Refusal → X → Type 0
 OnFlash g Format f r f' = FormatsFlash g f r f'
 OnFlash g Recover f r f' = RecoversFlash g f f'

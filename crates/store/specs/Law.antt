@@ -50,11 +50,11 @@ pub record RecoverRight (l : Ledger) (r : Result ℕ Refusal) : Type 0 where
   pub which : (number ≡ number_by l) ⊎ ((number ≡ number_by l + 1) × (is_some l.doubt ≡ true))
 
 -- the place of the first write that a charge does not complete
-abbrev pub place_of : Write → ℕ × Option ℕ
-place_of w = (write_bank w, write_unit w)
+abbrev pub write_place : Write → ℕ × Option ℕ
+write_place w = (write_bank w, write_unit w)
 
 abbrev pub place_cut : List Write → ℕ → ℕ × Option ℕ
-place_cut writes charge = place_of (slice_index_or writes charge (erase 0))
+place_cut writes charge = write_place (slice_index_or writes charge (erase 0))
 
 -- A commit that nothing stops before its writes: it is cut, with 11 and the place of the write that the charge does not reach,
 -- if and only if the charge before it is below the writes that its change needs on the units before it.

@@ -22,11 +22,6 @@ Stop = ℕ × (ℕ × Option ℕ)
 abbrev pub stops : FaultGhosts Stop
 stops = record { layer = []; number = λ (e : Stop). e.0; place = λ (e : Stop). e.1 }
 
--- a result of the flash by what its fault gives
-abbrev pub as_stop : {A F : Type 0} → FaultGhosts F → Result A F → Result A Stop
-as_stop t (Ok x) = Ok x
-as_stop t (Err e) = Err (t.number e, t.place e)
-
 -- 11 carries the place of the write that the flash refused
 abbrev pub refused_at : {A : Type 0} → Result A Stop → Result A Refusal
 refused_at (Ok x) = Ok x

@@ -10,7 +10,7 @@ use journal::standing::Standing;
 use readings::gathered::gathered;
 
 // The step of the temperature from UT. UT is judged before an absent key.
-pub(crate) fn step_numbers(standing: &Standing, ut: i32) -> Result<StepNumbers, Refusal>
+pub(crate) fn step_from_ut(standing: &Standing, ut: i32) -> Result<StepNumbers, Refusal>
     ensures { result ≡ temperature_answer (pairs_of standing.now.pairs) standing.now.number ut }
 {
     let raw = checked_ut(ut)?;

@@ -1,8 +1,9 @@
 // The calls of the store that concern its units.
 //
-// Of each call two things are said. `does`: exactly what it answers and what it leaves, whatever the store was before. `ledger`: after every past since
-// an accepted format the answer is the one that the ledger of that past calls for, and the store agrees with the past and this call; of format,
-// `past`: accepted, it begins one. And `flash`: what became of the flash itself, with all that its kind holds besides what is seen of it. That what the store knows stays what its units say is the invariant of its type.
+// Of each call three things are said. `does`: exactly what it answers and what it leaves, whatever the store was before. `ledger`: after every past since
+// an accepted format the answer is the one that the ledger of that past calls for, and the store agrees with the past and this call; of format, `past`:
+// accepted, it begins one. `flash`: what became of the flash itself, with all that its kind holds besides what is seen of it.
+// That what the store knows stays what its units say is the invariant of its type.
 ghost use Rattle.std.specs.Prelude.{◌≡◌};
 ghost use Rattle.store.specs.declared.entries.Entry.TheVariants.{Recover, Begin, Put, Commit, Abandon, Get};
 ghost use Rattle.store.specs.Moments.{moment};

@@ -9,7 +9,7 @@ use crate::phases::Event;
 use crate::refusals::Refusal;
 use crate::steps::{Line, Step};
 use crate::stores::Store;
-use crate::worked::{line, step_numbers};
+use crate::worked::{line, step_from_ut};
 use flash::interface::Flash;
 
 impl<F: Flash> Store<F> {
@@ -20,7 +20,7 @@ impl<F: Flash> Store<F> {
         ensures flash { self.new.flash ≡ self.old.flash }
     {
         self.judge(Event::Look)?;
-        let numbers = step_numbers(&self.standing, ut)?;
+        let numbers = step_from_ut(&self.standing, ut)?;
         Ok(Step { numbers })
     }
 

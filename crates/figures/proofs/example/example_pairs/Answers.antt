@@ -11,8 +11,12 @@ use Rattle.layout.specs.Catalogue.{admits, pair_of}
 use Rattle.readings.specs.Gathered.{coefficients_of}
 use Rattle.compensation.specs.Division.{floor_div}
 use Rattle.compensation.specs.Formulas.{x1_of, x2_of, t_of, samples_of, s_of, x3_of, b3_of, y3_of, b4_of, b7_of, p_of, last_correction_of, pa_of, up_limit_of}
-use Rattle.figures.specs.Figures.{pair_from, example_pairs}
+use Rattle.figures.specs.Figures.{example_pairs}
 use Rattle.figures.proofs.example.example_pairs.Goals as goal
+
+-- a key with its coefficient, as a pair
+abbrev pair_from : ℕ × ℤ → Pair
+pair_from p = pair_of p.0 p.1
 
 all : all_admitted example_pairs ≡ true
 unfolding admits

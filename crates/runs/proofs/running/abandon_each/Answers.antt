@@ -1,4 +1,4 @@
-use Rattle.std.proofs.Common.{◌≡◌, ℕ, List, [], ◌∷◌, ◌++◌, map, Some, vec_items, deque_items, sym, ap, ◌∙◌, subst, arith}
+use Rattle.std.proofs.Common.{◌≡◌, ℕ, List, [], ◌∷◌, ◌++◌, map, Some, vec_items, deque_items, sym, ap, ◌∙◌, subst, rules, arith}
 use mathlib.Core.List.{map-append}
 use Rattle.std.proofs.lemmas.List.{append_assoc}
 use Rattle.store.specs.declared.entries.Entry.TheVariants.{Abandon as abandoned}
@@ -8,7 +8,11 @@ use Rattle.runs.specs.declared.requests.Request.TheVariants.{Abandon}
 use Rattle.runs.specs.Held.{held, ticket_numbers, step_numbers}
 use Rattle.runs.specs.Runs.{abandoning}
 use Rattle.runs.proofs.Links.{made_more, abandon_turn}
+use Rattle.runs.proofs.Flashes.{onward_none, onward_more}
 use Rattle.runs.proofs.running.abandon_each.Goals as goal
+
+pub loop-ticket-init : goal.loop-ticket-init
+loop-ticket-init g c = ([], search rules, search rules, search rules, search rules, onward_none g.F.Flash (vec_items c.args.log.now) c.args.store.now.flash)
 
 pub loop-ticket-preserved : goal.loop-ticket-preserved
 loop-ticket-preserved g c =
@@ -29,4 +33,5 @@ loop-ticket-preserved g c =
       inv.2 ∙ ap (λ (x : List ℕ). gone ++ x) out ∙ sym (append_assoc gone (j ∷ []) us),
       inv.3,
       omega (arith, inv.4, c.push_reserved.ensures.len, c.push_reserved.ensures.capacity, c.in-Some.ensures.len),
+      onward_more g.F.Flash _ _ _ _ _ (Some (abandoned j c.abandon-answer.result)) _ inv.5 c.abandon-answer.ensures.flash c.push_reserved.ensures.items,
     )

@@ -2,6 +2,7 @@ use Rattle.std.proofs.Common.{◌≡◌, ℕ, ◌+◌, ◌≤◌, List, ◌++◌
 use Rattle.store.specs.Moments.{moment}
 use Rattle.runs.specs.Hands.{held_by}
 use Rattle.runs.specs.Runs.{Made, abandoning}
+use Rattle.runs.specs.Flashes.{Onward}
 use Rattle.runs.proofs.running.abandon_each.Given as goal
 
 -- the first tickets are abandoned, the others are still held
@@ -13,6 +14,7 @@ invariant-loop-ticket g l =
     × ((held_by l.initial.hand).tickets ≡ gone ++ (held_by l.hand).tickets)
     × ((held_by l.hand).steps ≡ (held_by l.initial.hand).steps)
     × (vec_len l.log + deque_len l.hand.tickets ≤ vec_capacity l.log)
+    × Onward g.F.Flash (vec_items l.initial.log) l.initial.store.flash (vec_items l.log) l.store.flash
 
 abbrev pub decreases-loop-ticket : goal.decreases-loop-ticket
 decreases-loop-ticket g l = deque_len l.hand.tickets

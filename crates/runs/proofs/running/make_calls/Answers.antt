@@ -5,10 +5,11 @@ use Rattle.runs.specs.Held.{Held, held, nothing_held, ticket_numbers, step_numbe
 use Rattle.runs.specs.Hands.{held_by}
 use Rattle.runs.specs.Runs.{Made}
 use Rattle.runs.proofs.Links.{run_made, take_least}
+use Rattle.runs.proofs.Flashes.{through_both}
 use Rattle.runs.proofs.running.make_calls.Goals as goal
 
-pub returns : goal.returns
-returns g c =
+pub returns-clause-run : goal.returns-clause-run
+returns-clause-run g c =
     let m = moment g.F.Flash c.args.store.now in
     let n = moment g.F.Flash c.take_up.new.store in
     let m' = moment g.F.Flash c.abandon_each.new.store in
@@ -22,3 +23,7 @@ returns g c =
     run_made m n m' (take room.most qs) i (vec_items room.log) (vec_items c.take_up.new.log) (vec_items c.abandon_each.new.log) room.no_log
     (subst (λ (x : List Request). Made m nothing_held x (vec_items room.log) (vec_items c.take_up.new.log) n i) (take_least qs room.most c.min-count.result c.min-count.ensures) made)
     c.abandon_each.ensures.made
+
+pub returns-clause-flash : goal.returns-clause-flash
+returns-clause-flash g c =
+    through_both g.F.Flash (vec_items c.args.room.log) (vec_items c.take_up.new.log) (vec_items c.abandon_each.new.log) _ _ _ c.args.room.no_log c.take_up.ensures.flash c.abandon_each.ensures.flash

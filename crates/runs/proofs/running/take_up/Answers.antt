@@ -4,6 +4,7 @@ use Rattle.store.specs.Moments.{moment}
 use Rattle.runs.specs.declared.requests.Request.TheVariants.{Recover}
 use Rattle.runs.specs.Hands.{held_by, Spare}
 use Rattle.runs.proofs.Links.{made_more}
+use Rattle.runs.proofs.Flashes.{onward_more}
 use Rattle.runs.proofs.running.take_up.Goals as goal
 
 pub loop-request-preserved : goal.loop-request-preserved
@@ -19,4 +20,5 @@ loop-request-preserved g c =
       omega (arith, c.push_reserved.ensures.len, inv.2),
       c.push_reserved.ensures.capacity ∙ inv.3,
       omega (arith, c.turn-outcome.ensures.room.1, inv.4),
+      onward_more g.F.Flash _ _ _ _ _ c.turn-outcome.result _ inv.5 c.turn-outcome.ensures.flash c.push_reserved.ensures.items,
     )

@@ -2,6 +2,7 @@ use Rattle.std.proofs.Common.{◌≡◌, ◌+◌, ◌-◌, ◌≤◌, length, ta
 use Rattle.store.specs.Moments.{moment}
 use Rattle.runs.specs.Hands.{held_by, Spare}
 use Rattle.runs.specs.Runs.{Made}
+use Rattle.runs.specs.Flashes.{Onward}
 use Rattle.runs.proofs.running.take_up.Given as goal
 
 -- what the requests so far added, and room for the others
@@ -13,3 +14,4 @@ invariant-loop-request g l =
     × (vec_len l.log ≡ vec_len l.initial.log + l.request-index)
     × (vec_capacity l.log ≡ vec_capacity l.initial.log)
     × (deque_len l.hand.tickets ≤ deque_len l.initial.hand.tickets + l.request-index)
+    × Onward g.F.Flash (vec_items l.initial.log) l.initial.store.flash (vec_items l.log) l.store.flash

@@ -2,7 +2,7 @@ use Rattle.std.proofs.Common.{Ok, w16, w32, SFits, rules}
 use Rattle.std.proofs.lemmas.Int.{to_z-of_z}
 use Rattle.layout.specs.Held.{pairs_of}
 use Rattle.store.proofs.Looking.{step_is}
-use Rattle.store.proofs.worked.step_numbers.Goals as goal
+use Rattle.store.proofs.worked.step_from_ut.Goals as goal
 
 pub returns : goal.returns
 returns c =
