@@ -32,11 +32,12 @@ recovered_plan f f' p e x =
     plan_after_power_up f f' p (is_roomy (seen ghosts f)) e (if_map (is_roomy (seen ghosts f)) (λ y. y.plan) (λ y. ap (λ s. (state_of s).plan) y) x)
 
 pub formatted_with : (f f' : Simulator) (p : Plan) (r : Result ℕ Refusal) → (state_of f).plan ≡ p → FormatsFlash ghosts f r f' →
-    If (is_roomy (seen ghosts f)) (FormattedWith p r (seen ghosts f')) (Unit {0})
+    If (is_roomy (seen ghosts f)) (FormattedWith (seen ghosts f) p r (seen ghosts f')) (Unit {0})
 formatted_with f f' p r e x =
     if_map (is_roomy (seen ghosts f))
     (λ y. record {
       powered = seen ghosts y.run.powered;
+      power_up = y.run.power_up.meaning;
       charge = ap (λ s. s.charge) y.run.power_up.powered ∙ ap (λ q. (next_entry q).charge) e;
       made = y.made;
       run = y.run.run;

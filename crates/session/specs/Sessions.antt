@@ -2,6 +2,7 @@
 use Rattle.std.specs.Prelude.{◌≡◌, ℕ, cond, ℤ, Some, None, Ok, Err, Option, Result}
 use Rattle.std.specs.Option.{option_map_or}
 use Rattle.flash.specs.FlashState.{FlashState}
+use Rattle.flash.specs.Calls.{PoweredUp}
 use Rattle.flash.specs.Plans.{Plan as Entries, Added, taking}
 use Rattle.simulator.specs.SimulatorStates.{next_entry}
 use Rattle.store.specs.declared.entries.Entry.TheVariants.{Recover as recovered, Begin as begun, Put as did_put, Commit as committed, Abandon as abandoned, Get as got, Temperature as took_temperature, Pressure as took_pressure}
@@ -86,15 +87,16 @@ abbrev pub RecoveredWith : Moment → Entries → Moment → Type 0
 RecoveredWith m p m' = If (is_roomy m.flash) (m'.flash.charge ≡ (next_entry p).charge) (Unit {0})
 
 -- a format makes its writes with the charge of the entry that it takes
-pub record FormattedWith (p : Entries) (r : Result ℕ Refusal) (s' : FlashState) : Type 0 where
+pub record FormattedWith (s : FlashState) (p : Entries) (r : Result ℕ Refusal) (s' : FlashState) : Type 0 where
   pub powered : FlashState
+  pub power_up : PoweredUp s powered
   pub charge : powered.charge ≡ (next_entry p).charge
   pub made : Result (Unit {0}) Refusal
   pub run : FormatWrites powered made s'
   pub answer : r ≡ written 0 made
 
 abbrev pub FormatsWith : Moment → Entries → Result ℕ Refusal → Moment → Type 0
-FormatsWith m p r m' = If (is_roomy m.flash) (FormattedWith p r m'.flash) (Unit {0})
+FormatsWith m p r m' = If (is_roomy m.flash) (FormattedWith m.flash p r m'.flash) (Unit {0})
 
 -- what a command does: it makes the store's call that it stands for, and answers what that answers
 abbrev pub Carried : Session → Command → Answer → Session → Type 0
