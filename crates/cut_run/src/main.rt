@@ -1,6 +1,8 @@
-// A run on a store over a simulator: a calibration is committed and read with, the commit of the next one is cut by a power failure, and the
-// store is recovered. Every call and what came of it, in words. That recover and format power the flash up exactly once, also where it is
-// on, is something that no contract over any flash can see; here each power-up brings its own charge, and the cuts show it.
+// A run on a store over a simulator: a calibration is committed and read with, the commit of the
+// next one is cut by a power failure, and the store is recovered. Every call and what came of it,
+// in words. That recover and format power the flash up exactly once, as its kind does it, and also
+// where it is on, is a clause of the store's calls over any flash (`OnePowerUp`); here each
+// power-up brings its own charge, and the cuts show it.
 #![tactic(auto)]
 
 use anyhow::Context;
@@ -14,7 +16,7 @@ use layout::catalogue::name_of;
 use layout::meanings::Pair;
 use runs::requests::Request;
 use runs::rooms::Room;
-use runs::running::make_calls;
+use runs::running::format_and_make_calls;
 use simulator::Simulator;
 use std::alloc::Global;
 use store::entries::Entry;
@@ -153,8 +155,7 @@ fn name(key: u8) -> &'static str {
     name_of(key).unwrap_or("?")
 }
 
-fn show_get(rt: &impl Print, key: u8, answer: Result<Option<i32>, Refusal>) -> anyhow::Result<()> {
-    print!(rt; "get {}: ", name(key))?;
+fn show_value(rt: &impl Print, answer: Result<Option<i32>, Refusal>) -> anyhow::Result<()> {
     show_answer(rt, answer, |value| {
         match value {
             Some(value) => println!(rt; "{value}")?,
@@ -164,53 +165,79 @@ fn show_get(rt: &impl Print, key: u8, answer: Result<Option<i32>, Refusal>) -> a
     })
 }
 
-// A call and what came of it.
-fn show(rt: &impl Print, entry: Entry) -> anyhow::Result<()> {
+fn show_call(rt: &impl Print, entry: Entry) -> anyhow::Result<()> {
     match entry {
-        Entry::Recover { answer } => {
-            print!(rt; "recover: ")?;
-            show_number(rt, "number", answer)
-        }
-        Entry::Begin { answer } => {
-            print!(rt; "begin: ")?;
-            show_number(rt, "ticket", answer)
-        }
+        Entry::Recover { .. } => print!(rt; "recover: ")?,
+        Entry::Begin { .. } => print!(rt; "begin: ")?,
         Entry::Put {
             ticket,
             key,
             value,
-            answer,
+            ..
         } => {
             let name = name(key);
-            print!(rt; "put {name} {value} into the change of ticket {ticket}: ")?;
-            show_number(rt, "pairs", answer)
+            print!(rt; "put {name} {value} into the change of ticket {ticket}: ")?
         }
-        Entry::Commit { ticket, answer } => {
-            print!(rt; "commit of ticket {ticket}: ")?;
-            show_number(rt, "number", answer)
+        Entry::Commit { ticket, .. } => print!(rt; "commit of ticket {ticket}: ")?,
+        Entry::Abandon { ticket, .. } => print!(rt; "abandon of ticket {ticket}: ")?,
+        Entry::Get { key, .. } => print!(rt; "get {}: ", name(key))?,
+        Entry::Temperature { ut, .. } => print!(rt; "temperature from {ut}: ")?,
+        Entry::Pressure { up, .. } => print!(rt; "pressure from {up}: ")?,
+    }
+    Ok(())
+}
+
+fn show_outcome(rt: &impl Print, entry: Entry) -> anyhow::Result<()> {
+    match entry {
+        Entry::Recover { answer } => show_number(rt, "number", answer),
+        Entry::Begin { answer } => show_number(rt, "ticket", answer),
+        Entry::Put { answer, .. } => show_number(rt, "pairs", answer),
+        Entry::Commit { answer, .. } => show_number(rt, "number", answer),
+        Entry::Abandon { answer, .. } => show_answer(rt, answer, |_| {
+            println!(rt; "done")?;
+            Ok(())
+        }),
+        Entry::Get { answer, .. } => show_value(rt, answer),
+        Entry::Temperature { answer, .. } => show_answer(rt, answer, |step| {
+            println!(rt; "{} degrees", degrees(step.t))?;
+            Ok(())
+        }),
+        Entry::Pressure { answer, .. } => show_answer(rt, answer, |line| {
+            println!(rt; "{} degrees, {} hPa", degrees(line.t), hectopascals(line.p))?;
+            Ok(())
+        }),
+    }
+}
+
+// A call and what came of it, or that none was made.
+fn show(rt: &impl Print, outcome: Option<Entry>) -> anyhow::Result<()> {
+    match outcome {
+        Some(entry) => {
+            show_call(rt, entry)?;
+            show_outcome(rt, entry)
         }
-        Entry::Abandon { ticket, answer } => {
-            print!(rt; "abandon of ticket {ticket}: ")?;
-            show_answer(rt, answer, |_| {
-                println!(rt; "done")?;
-                Ok(())
-            })
+        None => {
+            println!(rt; "not made: the ticket or the step is not there")?;
+            Ok(())
         }
-        Entry::Get { key, answer } => show_get(rt, key, answer),
-        Entry::Temperature { ut, answer } => {
-            print!(rt; "temperature from {ut}: ")?;
-            show_answer(rt, answer, |step| {
-                println!(rt; "{} degrees", degrees(step.t))?;
-                Ok(())
-            })
+    }
+}
+
+// Formats the store and makes the calls of the run.
+fn show_run(rt: &HostRuntime, store: &mut Store<Simulator>) -> anyhow::Result<()> {
+    let asked = requests(rt.alloc())?;
+    print!(rt; "format: ")?;
+    let room = Room::new(rt.alloc(), asked.len())?;
+    match format_and_make_calls(store, &asked, room) {
+        Ok(log) => {
+            // An accepted format answers 0, by the contract of the call.
+            println!(rt; "number 0")?;
+            for outcome in &log {
+                show(rt, *outcome)?;
+            }
+            Ok(())
         }
-        Entry::Pressure { up, answer, .. } => {
-            print!(rt; "pressure from {up}: ")?;
-            show_answer(rt, answer, |line| {
-                println!(rt; "{} degrees, {} hPa", degrees(line.t), hectopascals(line.p))?;
-                Ok(())
-            })
-        }
+        Err(refusal) => show_refusal(rt, refusal),
     }
 }
 
@@ -222,16 +249,7 @@ fn show_format(rt: &impl Print, store: &mut Store<Simulator>) -> anyhow::Result<
 
 fn run(rt: &HostRuntime) -> anyhow::Result<()> {
     let mut store = Store::new(simulator(rt.alloc())?, 1);
-    show_format(rt, &mut store)?;
-    let asked = requests(rt.alloc())?;
-    let room = Room::new(rt.alloc(), asked.len())?;
-    let log = make_calls(&mut store, &asked, room);
-    for outcome in &log {
-        match *outcome {
-            Some(entry) => show(rt, entry)?,
-            None => println!(rt; "not made: the ticket or the step is not there")?,
-        }
-    }
+    show_run(rt, &mut store)?;
     show_format(rt, &mut store)?;
     print!(rt; "recover: ")?;
     let answer = store.recover();

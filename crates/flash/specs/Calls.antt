@@ -1,5 +1,5 @@
 -- What each call does to a flash, and when it is refused.
-use Rattle.std.specs.Prelude.{◌≡◌, ℕ, ◌^◌, ◌<◌, true, cond, ◌&&◌, ◌⊎◌, List, length, replicate, Some, None, Option, Result, MatchResult, ◌==◌, nat_lt}
+use Rattle.std.specs.Prelude.{◌≡◌, ℕ, ◌^◌, ◌<◌, true, cond, ◌&&◌, ◌⊎◌, List, length, replicate, Some, None, Option, Result, IfErr, MatchResult, ◌==◌, nat_lt}
 use Rattle.std.specs.List.{AllZip}
 use Rattle.flash.specs.declared.units.Unit.{Unit as Cell}
 use Rattle.flash.specs.declared.units.Unit.TheVariants.{Blank, Programmed, Unreadable}
@@ -76,6 +76,11 @@ pub record EraseRefused {F : Type 0} (t : FaultGhosts F) (s : FlashState) (b : �
 
 abbrev pub Erase : {F : Type 0} → FaultGhosts F → FlashState → ℕ → FlashState → Result (Unit {0}) F → Type 0
 Erase t s b s' r = MatchResult r (λ _. EraseDone s b s') (EraseRefused t s b s')
+
+-- A program or an erase that is refused with 21, 22 or 23 leaves the very same flash, with all
+-- that its kind holds besides what is seen of it. Only the cut, 24, leaves another one.
+abbrev pub Untouched : {X F : Type 0} → FaultGhosts F → X → Result (Unit {0}) F → X → Type 0
+Untouched t f r f' = IfErr r (λ e. t.number e < 24 → f' ≡ f)
 
 -- power-up: on, all units kept; the implementation chooses the charge
 pub record PoweredUp (before after : FlashState) : Type 0 where

@@ -2,7 +2,7 @@
 ghost use Rattle.std.specs.Prelude.{◌≡◌, ℕ, Bool, List, length};
 ghost use Rattle.flash.specs.declared.units.Unit.{Unit as Cell};
 ghost use Rattle.flash.specs.FlashState.{flash_state, WellFormed};
-ghost use Rattle.flash.specs.Calls.{Read, Program, Erase, PoweredUp};
+ghost use Rattle.flash.specs.Calls.{Read, Program, Erase, PoweredUp, Untouched};
 ghost use Rattle.flash.specs.Plans.{Plan, taking};
 
 use crate::faults::FlashFault;
@@ -30,6 +30,14 @@ pub trait Flash {
     // What a power-up of just this kind makes of a flash: before it, and after it.
     ghost powered: { Self → Self → Type 0 };
 
+    // What a program of just this kind makes of a flash, refused or not: the flash before it, its
+    // bank, its unit and its value, and the flash after it.
+    ghost programmed: { Self → ℕ → ℕ → ℕ → Self → Type 0 };
+
+    // What an erase of just this kind makes of a flash, refused or not: the flash before it, its
+    // bank, and the flash after it.
+    ghost erased: { Self → ℕ → Self → Type 0 };
+
     // How many banks there are, which never changes.
     fn banks(&self) -> usize
         ensures count { result ≡ length (units self.now) };
@@ -46,11 +54,15 @@ pub trait Flash {
     // Writes a value into a blank unit. Refused as a read, then with 23 when the unit is not blank, then cut with 24 at charge 0.
     fn program(&mut self, bank: usize, unit: usize, value: u64) -> Result<(), Self::Fault>
         ensures programs { Program Self.Fault.FlashFault (flash_state (units self.old) (width self.old) (power self.old) (charge self.old)) bank unit value (flash_state (units self.new) (width self.new) (power self.new) (charge self.new)) result }
+        ensures untouched { Untouched Self.Fault.FlashFault self.old result self.new }
+        ensures programmed { programmed self.old bank unit value self.new }
         ensures plan { plan self.new ≡ plan self.old };
 
     // Makes all units of a bank blank. Refused as a read, then cut with 24 at charge 0.
     fn erase(&mut self, bank: usize) -> Result<(), Self::Fault>
         ensures erases { Erase Self.Fault.FlashFault (flash_state (units self.old) (width self.old) (power self.old) (charge self.old)) bank (flash_state (units self.new) (width self.new) (power self.new) (charge self.new)) result }
+        ensures untouched { Untouched Self.Fault.FlashFault self.old result self.new }
+        ensures erased { erased self.old bank self.new }
         ensures plan { plan self.new ≡ plan self.old };
 
     // Turns the flash on, with a charge of the implementation's choice, as its kind has it; keeps all units; takes an entry of the plan; never refused.

@@ -12,5 +12,6 @@ pub mod Theorem
 pub mod Gathering
 pub mod Scanning
 pub mod Performing
+pub mod Chaining
 pub mod Charging
 pub mod Stretch

@@ -10,6 +10,12 @@ use Rattle.flash.specs.Calls.{Program}
 use Rattle.layout.specs.declared.meanings.Pair.{Pair}
 use Rattle.layout.specs.Codec.{record_value, commit_value}
 
+-- the records of pairs, of which p is the next one
+pub records_next : (b u : ℕ) (left : List Pair) (p : Pair) (ps : List Pair) → left ≡ p ∷ ps → (v : ℕ) → v ≡ record_value p →
+    records b u left ≡ program b u v ∷ records b (u + 1) ps
+records_next b u left p ps next v value =
+    ap (records b u) next ∙ (λ i. program b u (sym value i) ∷ records b (sym (add-one u) i) ps)
+
 module _ {F : Type 0} (t : FaultGhosts F) where
   -- what the flash's calls promise, as writes
   pub program_stopped : (s : FlashState) (b u v : ℕ) (s' : FlashState) (e : F) → ProgramRefused t s b u v s' e → StoppedAt t s (program b u v) s' e
@@ -41,9 +47,7 @@ module _ {F : Type 0} (t : FaultGhosts F) where
   module _ (A : Type 0) (ws : List Write) (s : FlashState) (b u : ℕ) (left : List Pair) (p : Pair) (ps : List Pair) (m n : FlashState)
       (next : left ≡ p ∷ ps) (v : ℕ) (value : v ≡ record_value p) (o : Onward A ws s (records b u left) m) where
     here : Onward A ws s (program b u v ∷ records b (u + 1) ps) m
-    here =
-        subst (λ k. Onward A ws s (program b u v ∷ records b k ps) m) (sym (add-one u))
-        (subst (λ x. Onward A ws s (program b u x ∷ records b (suc u) ps) m) (sym value) (subst (λ l. Onward A ws s (records b u l) m) next o))
+    here = subst (λ l. Onward A ws s l m) (records_next b u left p ps next v value) o
 
     pub record_done : ProgramDone m b u v n → Onward A ws s (records b (u + 1) ps) n
     record_done d = onward_done ws s (program b u v) (records b (u + 1) ps) m n here d.accepted d.is

@@ -1,10 +1,12 @@
 -- Writes to the banks of a flash: what each makes of the units, and what comes of a list of them.
-use Rattle.std.specs.Prelude.{◌≡◌, ℕ, ◌-◌, ◌<◌, false, ◌⊎◌, List, [], ◌∷◌, replicate, Some, None, Option, Result, MatchResult, slice_set}
+use Rattle.std.specs.Prelude.{◌≡◌, ℕ, ◌-◌, ◌<◌, false, ◌⊎◌, List, [], ◌∷◌, replicate, Some, None, Option, Result, MatchResult, MatchBool, ◌==◌, slice_set}
 use Rattle.std.specs.List.{AllZip}
 use Rattle.flash.specs.declared.units.Unit.{Unit as Cell}
 use Rattle.flash.specs.declared.units.Unit.TheVariants.{Blank, Programmed}
 use Rattle.flash.specs.declared.faults.FlashFault.{Ghosts as FaultGhosts}
+use Rattle.flash.specs.declared.interface.Flash.{Ghosts}
 use Rattle.flash.specs.FlashState.{FlashState, flash_state}
+use Rattle.flash.specs.Seen.{seen}
 use Rattle.flash.specs.Calls.{program_refusal, erase_refusal, ProgramResidue, EraseResidue, Refused}
 use Rattle.journal.specs.Reading.{Banks, bank}
 
@@ -70,3 +72,21 @@ abbrev pub Performed : {A F : Type 0} → FaultGhosts F → List Write → Flash
 Performed t [] s s' r = MatchResult r (λ _. s' ≡ s) (λ _. ⊥)
 Performed t (w ∷ ws) s s' r =
     ((write_refusal s w ≡ 0) × Performed t ws (completed s w) s' r) ⊎ MatchResult r (λ _. ⊥) (StoppedAt t s w s')
+
+-- ---- of a flash itself, with all that its kind holds besides what is seen of it
+
+-- what one write makes of it, completed or not, as its kind has it
+abbrev pub Wrote : {X Y : Type 0} → Ghosts X Y → X → Write → X → Type 0
+Wrote g f (program b u v) f' = g.programmed f b u v f'
+Wrote g f (erase b) f' = g.erased f b f'
+
+-- The writes in their order, as one chain of flashes: each makes the next flash, up to the first
+-- that the flash does not complete, which makes the last one; refused with 21 to 23 it leaves the
+-- very same.
+abbrev pub WroteThrough : {X Y : Type 0} → Ghosts X Y → List Write → X → X → Type 0
+WroteThrough g [] f f' = f' ≡ f
+WroteThrough {X} g (w ∷ ws) f f' =
+    MatchBool (write_refusal (seen g f) w == 0)
+    ((next : X) × Wrote g f w next × (seen g next ≡ completed (seen g f) w)
+    × WroteThrough g ws next f')
+    (Wrote g f w f' × (write_refusal (seen g f) w < 24 → f' ≡ f))

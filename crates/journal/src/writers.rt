@@ -4,7 +4,7 @@ ghost use Rattle.std.specs.Prelude.{◌≡◌, ◌+◌, length, IfOk};
 ghost use Rattle.flash.specs.Seen.{seen};
 ghost use Rattle.layout.specs.Held.{pairs_of};
 ghost use Rattle.journal.specs.Log.{reading_of};
-ghost use Rattle.journal.specs.Writes.{Performed};
+ghost use Rattle.journal.specs.Writes.{Performed, WroteThrough};
 ghost use Rattle.journal.specs.Commit.{records, appending, moving, commit_writes, formatting};
 ghost use Rattle.journal.specs.Outcomes.{WholeOrAbsentAfter, EmptyAfter};
 
@@ -23,6 +23,8 @@ fn program_records<F: Flash>(
     pairs: &Pairs,
 ) -> Result<usize, F::Fault>
     ensures writes { Performed F.Fault.FlashFault (records bank from (pairs_of pairs.now)) (seen F.Flash flash.old) (seen F.Flash flash.new) result }
+    ensures itself { WroteThrough F.Flash (records bank from (pairs_of pairs.now))
+        flash.old flash.new }
     ensures next { IfOk result (λ at. at ≡ from + length (pairs_of pairs.now)) }
     ensures plan { F.Flash.plan flash.new ≡ F.Flash.plan flash.old }
 {
@@ -40,6 +42,9 @@ fn append<F: Flash>(
     number: u32,
 ) -> Result<(), F::Fault>
     ensures writes { Performed F.Fault.FlashFault (appending standing.now.bank standing.now.end (pairs_of change.now) number) (seen F.Flash flash.old) (seen F.Flash flash.new) result }
+    ensures itself { WroteThrough F.Flash
+        (appending standing.now.bank standing.now.end (pairs_of change.now) number)
+        flash.old flash.new }
     ensures plan { F.Flash.plan flash.new ≡ F.Flash.plan flash.old }
 {
     let at = program_records(flash, standing.bank, standing.end, change)?;
@@ -50,6 +55,8 @@ fn append<F: Flash>(
 // Writes pairs into a bank, which it erases before: their records from unit 1 on, and last the header.
 fn rewrite<F: Flash>(flash: &mut F, bank: usize, pairs: &Pairs, number: u32) -> Result<(), F::Fault>
     ensures writes { Performed F.Fault.FlashFault (moving bank (pairs_of pairs.now) number) (seen F.Flash flash.old) (seen F.Flash flash.new) result }
+    ensures itself { WroteThrough F.Flash (moving bank (pairs_of pairs.now) number)
+        flash.old flash.new }
     ensures plan { F.Flash.plan flash.new ≡ F.Flash.plan flash.old }
 {
     flash.erase(bank)?;
@@ -61,6 +68,7 @@ fn rewrite<F: Flash>(flash: &mut F, bank: usize, pairs: &Pairs, number: u32) -> 
 // Erases both banks and programs the header of an empty store.
 pub fn format_banks<F: Flash>(flash: &mut F) -> Result<(), F::Fault>
     ensures writes { Performed F.Fault.FlashFault formatting (seen F.Flash flash.old) (seen F.Flash flash.new) result }
+    ensures itself { WroteThrough F.Flash formatting flash.old flash.new }
     ensures empty { EmptyAfter F.Fault.FlashFault (seen F.Flash flash.old) (seen F.Flash flash.new) result }
     ensures plan { F.Flash.plan flash.new ≡ F.Flash.plan flash.old }
 {
@@ -80,6 +88,9 @@ pub fn write_change<F: Flash>(
     number: u32,
 ) -> Result<(), F::Fault>
     ensures writes { Performed F.Fault.FlashFault (commit_writes (F.Flash.width flash.old) (reading_of standing.now) (pairs_of change.now) number) (seen F.Flash flash.old) (seen F.Flash flash.new) result }
+    ensures itself { WroteThrough F.Flash
+        (commit_writes (F.Flash.width flash.old) (reading_of standing.now) (pairs_of change.now)
+        number) flash.old flash.new }
     ensures whole_or_absent { WholeOrAbsentAfter F.Fault.FlashFault (seen F.Flash flash.old) (reading_of standing.now) (pairs_of change.now) number (seen F.Flash flash.new) result }
     ensures plan { F.Flash.plan flash.new ≡ F.Flash.plan flash.old }
 {

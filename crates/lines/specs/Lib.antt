@@ -3,3 +3,5 @@ pub mod Tokens
 pub mod Numbers
 pub mod Commands
 pub mod Answers
+pub mod Inputs
+pub mod Outputs

@@ -3,7 +3,9 @@
 
 pub mod answers;
 pub mod commands;
+pub mod inputs;
 pub mod numbers;
+pub mod outputs;
 #[cfg(test)]
 mod tests;
 pub mod tokens;

@@ -2,19 +2,23 @@
 use Rattle.std.proofs.Common.{◌≡◌, ℕ, zero, suc, ◌-◌, ◌<◌, min, Bool, true, false, cond, ◌&&◌, eqb, List, [], ◌∷◌, length, get_or, set, replicate, Some, None, Ok, Err, Result, MatchResult, is_ok, sym, refl, ap, ◌∙◌, subst, inl, inr, arith, lit<}
 use Rattle.std.specs.List.{AllZip}
 use Rattle.std.proofs.lemmas.Bool.{and_from}
+use Rattle.std.proofs.lemmas.Bool.Decides.{nat_tests}
 use Rattle.std.proofs.lemmas.List.{set-get_or}
 use Rattle.flash.specs.declared.faults.FlashFault.{Ghosts as FaultGhosts}
 use Rattle.flash.specs.declared.units.Unit.{Unit as Cell}
 use Rattle.flash.specs.declared.units.Unit.TheVariants.{Blank, Programmed, Unreadable}
 use Rattle.flash.specs.FlashState.{FlashState, flash_state, WellFormed, bank_of, unit_at, with_bank, with_unit, after_write, after_cut}
-use Rattle.flash.specs.Calls.{read_refusal, program_refusal, erase_refusal, ProgramResidue, EraseResidue, Read, Program, ProgramDone, ProgramRefused, Erase, EraseDone, EraseRefused}
+use Rattle.flash.specs.Calls.{read_refusal, program_refusal, erase_refusal, ProgramResidue, EraseResidue, Read, Program, ProgramDone, ProgramRefused, Erase, EraseDone, EraseRefused, Untouched}
+use Rattle.flash.specs.Seen.{seen}
+use Rattle.flash.specs.declared.interface.Flash.{Ghosts}
 use Rattle.flash.specs.declared.causes.Cause.{Cause}
 use Rattle.flash.specs.declared.causes.Why.{Why}
 use Rattle.flash.specs.declared.causes.Why.TheVariants.{Off, Missing, NotBlank, Cut}
 use Rattle.flash.specs.Causes.{why_number, cause_number}
 use Rattle.mirror.specs.declared.mirror_faults.MirrorFault.{MirrorFault}
 use Rattle.mirror.specs.declared.mirror_faults.MirrorFault.TheVariants.{Own, First, Second}
-use Rattle.mirror.specs.MirrorSides.{mirror_fault, ProgramSides, EraseSides, SideCuts}
+use Rattle.mirror.specs.declared.mirrors.Mirror.{Mirror}
+use Rattle.mirror.specs.MirrorSides.{mirror_fault, ProgramSides, EraseSides, SideCuts, ProgramLeaves, EraseLeaves, is_own, ProgrammedInTurn, ErasedInTurn, SidesProgrammed, SidesErased}
 use Rattle.mirror.specs.Formed.{beside_length}
 use Rattle.mirror.specs.Mirrored.{mixed, beside, mixed_units, mirrored}
 use Rattle.flash.proofs.Refusals.{bank_length, read_refusal_open, program_refusal_open, erase_refusal_open, read_refusal_parts, charge_left, charge_out, number_cut, number_done}
@@ -177,6 +181,10 @@ module _ {E : Type 0} (p : FaultGhosts E) (a : FlashState) (k u : ℕ) where
   reads_unit Q (Ok y) m x h z same is = let value = h.value in cc
   reads_unit Q (Err e) m x h z same is = let refused = h.refused in absurd (omega arith)
 
+-- where only the charge can stop a write, the mirror itself does not refuse it
+not_own : (n c : ℕ) → n ≡ cond (eqb c 0) 24 0 → is_own n ≡ false
+not_own n c e = grind (arith, nat_tests)
+
 -- a program through a mirror whose unit is there and blank
 module _ (a b : FlashState) (k u v : ℕ) (s : WellFormed a) (t : WellFormed b) (there : read_refusal (mirrored a b) k u ≡ 0) (free : unit_at (mirrored a b) k u ≡ Blank) where
   parts : ((mirrored a b).on ≡ true) × (k < length (mirrored a b).units) × (u < (mirrored a b).width)
@@ -196,6 +204,9 @@ module _ (a b : FlashState) (k u v : ℕ) (s : WellFormed a) (t : WellFormed b) 
 
   mirror_refusal : program_refusal (mirrored a b) k u ≡ cond (eqb (min a.charge b.charge) 0) 24 0
   mirror_refusal = program_refusal_open (mirrored a b) k u parts.0 parts.1 parts.2 free
+
+  pub program_let_through : is_own (program_refusal (mirrored a b) k u) ≡ false
+  program_let_through = not_own _ (min a.charge b.charge) mirror_refusal
 
   pub program_done : (a' b' : FlashState) → ProgramDone a k u v a' → ProgramDone b k u v b' → ProgramDone (mirrored a b) k u v (mirrored a' b')
   program_done a' b' p q =
@@ -280,6 +291,9 @@ module _ (a b : FlashState) (k : ℕ) (s : WellFormed a) (t : WellFormed b) (on 
   erase_refusal_mirror : erase_refusal (mirrored a b) k ≡ cond (eqb (min a.charge b.charge) 0) 24 0
   erase_refusal_mirror = erase_refusal_open (mirrored a b) k on there
 
+  pub erase_let_through : is_own (erase_refusal (mirrored a b) k) ≡ false
+  erase_let_through = not_own _ (min a.charge b.charge) erase_refusal_mirror
+
   pub erase_done : (a' b' : FlashState) → EraseDone a k a' → EraseDone b k b' → EraseDone (mirrored a b) k (mirrored a' b')
   erase_done a' b' p q =
       let m = charge_left a.charge _ erase_refusal_first p.accepted in
@@ -349,3 +363,31 @@ module _ {E F : Type 0} (p : FaultGhosts E) (q : FaultGhosts F) (a b : FlashStat
   erase_by_sides a' b' (Err (Second at e)) h =
       let P : FlashState → Type 0 = λ z. EraseRefused (mirror_fault p q) (mirrored a b) k (mirrored z b') (Second at e) in
       (subst P (sym h.first) (erase_second a b k s t on there q (mirror_fault p q) e (Second at e) refl h.place b' h.second), erase_cut_second a b k s t on there q e b' h.second)
+
+-- what the sides say of their cuts and of what they leave: a write that is refused otherwise leaves the very same mirror
+module _ {A B E F : Type 0} (p : FaultGhosts E) (q : FaultGhosts F) (m m' : Mirror A B) where
+  same_mirror : (m'.first ≡ m.first) × (m'.second ≡ m.second) → m' ≡ m
+  same_mirror h =
+      let with_first : A → Mirror A B = λ z. record { first = z; second = m'.second } in
+      let with_second : B → Mirror A B = λ z. record { first = m.first; second = z } in
+      ap with_first h.0 ∙ ap with_second h.1
+
+  pub program_untouched : (r : Result (Unit {0}) (MirrorFault E F)) → SideCuts p q r → ProgramLeaves m.first m.second m'.first m'.second r → Untouched (mirror_fault p q) m r m'
+  program_untouched (Ok x) cut left = tt
+  program_untouched (Err (Own c)) cut left = λ _. same_mirror left
+  program_untouched (Err (First at e)) cut left = λ h. absurd (omega (arith, cut, h))
+  program_untouched (Err (Second at e)) cut left = λ h. absurd (omega (arith, cut, h))
+
+  pub erase_untouched : (r : Result (Unit {0}) (MirrorFault E F)) → SideCuts p q r → EraseLeaves m.first m.second m'.first m'.second r → Untouched (mirror_fault p q) m r m'
+  erase_untouched (Ok x) cut left = tt
+  erase_untouched (Err (Own c)) cut left = λ _. same_mirror left
+  erase_untouched (Err (First at e)) cut left = λ h. absurd (omega (arith, cut, h))
+  erase_untouched (Err (Second at e)) cut left = λ h. absurd (omega (arith, cut, h))
+
+-- a write that the mirror itself does not refuse
+module _ {A B E F : Type 0} (g : Ghosts A E) (h : Ghosts B F) (a : A) (b : B) (k : ℕ) (a' : A) (b' : B) where
+  pub programmed_through : (u v : ℕ) → is_own (program_refusal (mirrored (seen g a) (seen h b)) k u) ≡ false → ProgrammedInTurn g h a b k u v a' b' → SidesProgrammed g h a b k u v a' b'
+  programmed_through u v through turn = rw through turn
+
+  pub erased_through : is_own (erase_refusal (mirrored (seen g a) (seen h b)) k) ≡ false → ErasedInTurn g h a b k a' b' → SidesErased g h a b k a' b'
+  erased_through through turn = rw through turn

@@ -1,11 +1,14 @@
 -- What a call of a mirror does to each side: a and b are the sides before it, a' and b' after it.
-use Rattle.std.specs.Prelude.{◌≡◌, ℕ, ◌<◌, Some, None, Ok, Err, codes, Option, Result}
+use Rattle.std.specs.Prelude.{◌≡◌, ℕ, ◌<◌, Bool, ◌&&◌, Some, None, Ok, Err, codes, Option, Result, MatchBool, ◌==◌, nat_lt}
 use Rattle.flash.specs.declared.units.Unit.{Unit as Cell}
 use Rattle.flash.specs.declared.causes.Cause.{Cause}
 use Rattle.flash.specs.declared.faults.FlashFault.{Ghosts as FaultGhosts}
 use Rattle.flash.specs.FlashState.{FlashState, unit_at}
 use Rattle.flash.specs.Causes.{cause_number, cause_place}
-use Rattle.flash.specs.Calls.{read_refusal, program_refusal, erase_refusal, ProgramDone, ProgramRefused, EraseDone, EraseRefused}
+use Rattle.flash.specs.Seen.{seen}
+use Rattle.flash.specs.declared.interface.Flash.{Ghosts}
+use Rattle.flash.specs.Calls.{read_refusal, program_refusal, erase_refusal, ProgramDone, ProgramRefused, EraseDone, EraseRefused, PoweredUp}
+use Rattle.flash.specs.Plans.{taking}
 use Rattle.mirror.specs.declared.mirror_faults.MirrorFault.{MirrorFault}
 use Rattle.mirror.specs.declared.mirror_faults.MirrorFault.TheVariants.{Own, First, Second}
 use Rattle.mirror.specs.MirrorFaults.{mirror_number, mirror_place}
@@ -97,3 +100,49 @@ EraseLeaves a b a' b' (Ok x) = Unit {0}
 EraseLeaves a b a' b' (Err (Own c)) = (a' ≡ a) × (b' ≡ b)
 EraseLeaves a b a' b' (Err (First at e)) = Unit {0}
 EraseLeaves a b a' b' (Err (Second at e)) = a' ≡ a
+
+-- What becomes of the sides themselves, with all that their kinds hold besides what is seen of
+-- them: g and h are the ghost members of the two kinds, a and b the sides before, a' and b' after.
+
+-- a program that the mirror lets through: the first side is programmed as its kind has it, and
+-- the second as its kind has it only if the first completes
+abbrev pub ProgrammedInTurn : {A B E F : Type 0} → Ghosts A E → Ghosts B F →
+    (a : A) (b : B) (k u v : ℕ) (a' : A) (b' : B) → Type 0
+ProgrammedInTurn g h a b k u v a' b' =
+    g.programmed a k u v a'
+    × MatchBool (program_refusal (seen g a) k u == 0) (h.programmed b k u v b') (b' ≡ b)
+
+-- an erase that the mirror lets through: the second side, then the first
+abbrev pub ErasedInTurn : {A B E F : Type 0} → Ghosts A E → Ghosts B F →
+    (a : A) (b : B) (k : ℕ) (a' : A) (b' : B) → Type 0
+ErasedInTurn g h a b k a' b' =
+    h.erased b k b'
+    × MatchBool (erase_refusal (seen h b) k == 0) (g.erased a k a') (a' ≡ a)
+
+-- the refusals of the mirror's own: 21, 22 and 23
+abbrev pub is_own : ℕ → Bool
+is_own n = nat_lt 0 n && nat_lt n 24
+
+-- a program or an erase of the mirror: where the mirror itself refuses both sides are the very same
+abbrev pub SidesProgrammed : {A B E F : Type 0} → Ghosts A E → Ghosts B F →
+    (a : A) (b : B) (k u v : ℕ) (a' : A) (b' : B) → Type 0
+SidesProgrammed g h a b k u v a' b' =
+    MatchBool (is_own (program_refusal (mirrored (seen g a) (seen h b)) k u))
+    ((a' ≡ a) × (b' ≡ b)) (ProgrammedInTurn g h a b k u v a' b')
+
+abbrev pub SidesErased : {A B E F : Type 0} → Ghosts A E → Ghosts B F →
+    (a : A) (b : B) (k : ℕ) (a' : A) (b' : B) → Type 0
+SidesErased g h a b k a' b' =
+    MatchBool (is_own (erase_refusal (mirrored (seen g a) (seen h b)) k))
+    ((a' ≡ a) × (b' ≡ b)) (ErasedInTurn g h a b k a' b')
+
+-- a write leaves the plans of both sides
+abbrev pub PlansKept : {A B E F : Type 0} → Ghosts A E → Ghosts B F →
+    (a : A) (b : B) (a' : A) (b' : B) → Type 0
+PlansKept g h a b a' b' = (g.plan a' ≡ g.plan a) × (h.plan b' ≡ h.plan b)
+
+-- one power-up of a side, as its kind has it, which takes an entry of the side's plan
+pub record SidePoweredUp {X Y : Type 0} (g : Ghosts X Y) (f f' : X) : Type 0 where
+  pub powered : g.powered f f'
+  pub meaning : PoweredUp (seen g f) (seen g f')
+  pub plan : g.plan f' ≡ taking (g.plan f)

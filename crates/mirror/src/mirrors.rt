@@ -2,11 +2,11 @@
 ghost use Rattle.std.specs.Prelude.{◌≡◌, min, ◌&&◌};
 ghost use Rattle.flash.specs.FlashState.{flash_state};
 ghost use Rattle.flash.specs.Seen.{seen};
-ghost use Rattle.flash.specs.Calls.{Read, Program, Erase, PoweredUp};
+ghost use Rattle.flash.specs.Calls.{Read, Program, Erase, PoweredUp, Untouched};
 ghost use Rattle.flash.specs.Plans.{no_plan, taking};
 ghost use Rattle.mirror.specs.Mirrored.{mixed, mixed_units, mirrored};
 ghost use Rattle.mirror.specs.Formed.{mirrored_formed};
-ghost use Rattle.mirror.specs.MirrorSides.{mirror_fault, ReadSides, ProgramSides, EraseSides, SideCuts, ProgramLeaves, EraseLeaves};
+ghost use Rattle.mirror.specs.MirrorSides.{mirror_fault, ReadSides, ProgramSides, EraseSides, SideCuts, ProgramLeaves, EraseLeaves, ProgrammedInTurn, ErasedInTurn, SidesProgrammed, SidesErased, PlansKept, SidePoweredUp};
 
 use crate::mirror_faults::MirrorFault;
 use flash::causes::{Cause, Why};
@@ -67,6 +67,8 @@ impl<A: Flash, B: Flash> Mirror<A, B> {
         value: u64,
     ) -> Result<(), MirrorFault<A::Fault, B::Fault>>
         ensures sides { ProgramSides A.Fault.FlashFault B.Fault.FlashFault (seen A.Flash self.old.first) (seen B.Flash self.old.second) (seen A.Flash self.new.first) (seen B.Flash self.new.second) bank unit value result }
+        ensures programmed { ProgrammedInTurn A.Flash B.Flash self.old.first self.old.second
+            bank unit value self.new.first self.new.second }
         ensures left { ProgramLeaves self.old.first self.old.second self.new.first self.new.second result }
         ensures plans { (A.Flash.plan self.new.first ≡ A.Flash.plan self.old.first) × (B.Flash.plan self.new.second ≡ B.Flash.plan self.old.second) }
     {
@@ -82,6 +84,8 @@ impl<A: Flash, B: Flash> Mirror<A, B> {
     // Erases a bank of the second side, and of the first only if that completed.
     fn erase_sides(&mut self, bank: usize) -> Result<(), MirrorFault<A::Fault, B::Fault>>
         ensures sides { EraseSides A.Fault.FlashFault B.Fault.FlashFault (seen A.Flash self.old.first) (seen B.Flash self.old.second) (seen A.Flash self.new.first) (seen B.Flash self.new.second) bank result }
+        ensures erased { ErasedInTurn A.Flash B.Flash self.old.first self.old.second
+            bank self.new.first self.new.second }
         ensures left { EraseLeaves self.old.first self.old.second self.new.first self.new.second result }
         ensures plans { (A.Flash.plan self.new.first ≡ A.Flash.plan self.old.first) × (B.Flash.plan self.new.second ≡ B.Flash.plan self.old.second) }
     {
@@ -109,7 +113,16 @@ impl<A: Flash, B: Flash> Flash for Mirror<A, B> {
     // It follows no plan of its own; those of its sides go on.
     ghost plan = { λ m. no_plan };
 
-    ghost powered = { λ m m'. A.Flash.powered m.first m'.first × B.Flash.powered m.second m'.second };
+    ghost powered = { λ m m'.
+        SidePoweredUp A.Flash m.first m'.first × SidePoweredUp B.Flash m.second m'.second };
+
+    ghost programmed = { λ m b u v m'.
+        SidesProgrammed A.Flash B.Flash m.first m.second b u v m'.first m'.second
+        × PlansKept A.Flash B.Flash m.first m.second m'.first m'.second };
+
+    ghost erased = { λ m b m'.
+        SidesErased A.Flash B.Flash m.first m.second b m'.first m'.second
+        × PlansKept A.Flash B.Flash m.first m.second m'.first m'.second };
 
     ghost formed = { λ m. mirrored_formed (flash_state (A.units m.first) (A.width m.first) (A.power m.first) (A.charge m.first)) (flash_state (B.units m.second) (B.width m.second) (B.power m.second) (B.charge m.second)) (A.formed m.first) (B.formed m.second) };
 
@@ -155,6 +168,12 @@ impl<A: Flash, B: Flash> Flash for Mirror<A, B> {
         ensures programs { Program (mirror_fault A.Fault.FlashFault B.Fault.FlashFault) (mirrored (seen A.Flash self.old.first) (seen B.Flash self.old.second)) bank unit value (mirrored (seen A.Flash self.new.first) (seen B.Flash self.new.second)) result }
         ensures sides { ProgramSides A.Fault.FlashFault B.Fault.FlashFault (seen A.Flash self.old.first) (seen B.Flash self.old.second) (seen A.Flash self.new.first) (seen B.Flash self.new.second) bank unit value result }
         ensures cuts { SideCuts A.Fault.FlashFault B.Fault.FlashFault result }
+        ensures untouched { Untouched (mirror_fault A.Fault.FlashFault B.Fault.FlashFault)
+            self.old result self.new }
+        ensures programmed { SidesProgrammed A.Flash B.Flash self.old.first self.old.second
+            bank unit value self.new.first self.new.second
+            × PlansKept A.Flash B.Flash self.old.first self.old.second
+            self.new.first self.new.second }
         ensures left { ProgramLeaves self.old.first self.old.second self.new.first self.new.second result }
         ensures plans { (A.Flash.plan self.new.first ≡ A.Flash.plan self.old.first) × (B.Flash.plan self.new.second ≡ B.Flash.plan self.old.second) }
     {
@@ -169,6 +188,12 @@ impl<A: Flash, B: Flash> Flash for Mirror<A, B> {
         ensures erases { Erase (mirror_fault A.Fault.FlashFault B.Fault.FlashFault) (mirrored (seen A.Flash self.old.first) (seen B.Flash self.old.second)) bank (mirrored (seen A.Flash self.new.first) (seen B.Flash self.new.second)) result }
         ensures sides { EraseSides A.Fault.FlashFault B.Fault.FlashFault (seen A.Flash self.old.first) (seen B.Flash self.old.second) (seen A.Flash self.new.first) (seen B.Flash self.new.second) bank result }
         ensures cuts { SideCuts A.Fault.FlashFault B.Fault.FlashFault result }
+        ensures untouched { Untouched (mirror_fault A.Fault.FlashFault B.Fault.FlashFault)
+            self.old result self.new }
+        ensures erased { SidesErased A.Flash B.Flash self.old.first self.old.second
+            bank self.new.first self.new.second
+            × PlansKept A.Flash B.Flash self.old.first self.old.second
+            self.new.first self.new.second }
         ensures left { EraseLeaves self.old.first self.old.second self.new.first self.new.second result }
         ensures plans { (A.Flash.plan self.new.first ≡ A.Flash.plan self.old.first) × (B.Flash.plan self.new.second ≡ B.Flash.plan self.old.second) }
     {
@@ -183,7 +208,8 @@ impl<A: Flash, B: Flash> Flash for Mirror<A, B> {
 
     fn power_up(&mut self)
         ensures powers { PoweredUp (mirrored (seen A.Flash self.old.first) (seen B.Flash self.old.second)) (mirrored (seen A.Flash self.new.first) (seen B.Flash self.new.second)) }
-        ensures powered { A.Flash.powered self.old.first self.new.first × B.Flash.powered self.old.second self.new.second }
+        ensures powered { SidePoweredUp A.Flash self.old.first self.new.first
+            × SidePoweredUp B.Flash self.old.second self.new.second }
         ensures first { PoweredUp (seen A.Flash self.old.first) (seen A.Flash self.new.first) }
         ensures second { PoweredUp (seen B.Flash self.old.second) (seen B.Flash self.new.second) }
         ensures plans { (A.Flash.plan self.new.first ≡ taking (A.Flash.plan self.old.first)) × (B.Flash.plan self.new.second ≡ taking (B.Flash.plan self.old.second)) }

@@ -2,4 +2,4 @@ pub mod Tickets
 pub mod Steps
 pub mod Given
 pub mod Links
-pub mod Flashes
+pub mod Wholes

@@ -1,4 +1,5 @@
 pub mod Held
 pub mod Hands
+pub mod States
 pub mod Runs
-pub mod Flashes
+pub mod Whole

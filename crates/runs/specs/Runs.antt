@@ -4,9 +4,10 @@ use Rattle.std.specs.Option.{option_map}
 use Rattle.store.specs.declared.entries.Entry.{Entry}
 use Rattle.store.specs.declared.entries.Entry.TheVariants.{Recover as recovered, Begin as begun, Put as did_put, Commit as committed, Abandon as abandoned, Get as got, Temperature as took_temperature, Pressure as took_pressure}
 use Rattle.store.specs.declared.steps.StepNumbers.{StepNumbers}
+use Rattle.flash.specs.declared.interface.Flash.{Ghosts}
 use Rattle.store.specs.Moments.{Moment}
-use Rattle.store.specs.Calls.{Does}
 use Rattle.store.specs.Law.{Given, Agrees, CallFollowsLedger}
+use Rattle.runs.specs.States.{StoreState, moment_of, Effect}
 use Rattle.runs.specs.Held.{Held, held, nothing_held, has, without}
 use Rattle.runs.specs.declared.requests.Request.{Request}
 use Rattle.runs.specs.declared.requests.Request.TheVariants.{Recover, Begin, Put, Commit, Abandon, Get, Temperature, Pressure}
@@ -77,32 +78,34 @@ abbrev pub held_after : Held → Request → Option Entry → Held
 held_after h q None = h
 held_after h q (Some e) = held_with h (step_place q) e
 
--- a call that was made does what its contract says; where none was made, the store is as it was
-abbrev pub Effect : Moment → Option Entry → Moment → Type 0
-Effect m None m' = m' ≡ m
-Effect m (Some e) m' = Does m e m'
+-- What comes of one request: the call that it asks for is made, with this answer, or none; s is the
+-- store before it, s' after it.
+abbrev pub Turn : {X Y : Type 0} → Ghosts X Y →
+    StoreState X → Held → Request → Option Entry → StoreState X → Held → Type 0
+Turn g s h q o s' h' =
+    (option_map call_in o ≡ call_for h q) × Effect g s o s' × (h' ≡ held_after h q o)
 
--- what comes of one request: the call that it asks for is made, with this entry, or none
-abbrev pub Turn : Moment → Held → Request → Option Entry → Moment → Held → Type 0
-Turn m h q o m' h' = (option_map call_in o ≡ call_for h q) × Effect m o m' × (h' ≡ held_after h q o)
-
--- one request of a run with what came of it: the entry if a call was made, and the store and what is held after it
-pub record Link : Type 0 where
+-- one request of a run with what came of it: the entry if a call was made, and the store, its flash
+-- itself included, and what is held after it
+pub record Link (X : Type 0) : Type 0 where
   pub request : Request
   pub outcome : Option Entry
-  pub after : Moment
+  pub after : StoreState X
   pub holds : Held
 
-abbrev pub request_in : Link → Request
+abbrev pub request_in : {X : Type 0} → Link X → Request
 request_in k = k.request
 
-abbrev pub outcome_in : Link → Option Entry
+abbrev pub outcome_in : {X : Type 0} → Link X → Option Entry
 outcome_in k = k.outcome
 
--- each request is taken up on what the one before left
-abbrev pub Linked : Moment → Held → List Link → Moment → Held → Type 0
-Linked m h [] m' h' = (m' ≡ m) × (h' ≡ h)
-Linked m h (k ∷ ks) m' h' = Turn m h k.request k.outcome k.after k.holds × Linked k.after k.holds ks m' h'
+-- Each request is taken up on what the one before left: the links are one chain of stores with
+-- their flashes, from s to s'.
+abbrev pub Linked : {X Y : Type 0} → Ghosts X Y →
+    StoreState X → Held → List (Link X) → StoreState X → Held → Type 0
+Linked g s h [] s' h' = (s' ≡ s) × (h' ≡ h)
+Linked g s h (k ∷ ks) s' h' =
+    Turn g s h k.request k.outcome k.after k.holds × Linked g k.after k.holds ks s' h'
 
 -- the past after a request
 abbrev pub past_with : Option Entry → List Entry → List Entry
@@ -134,37 +137,46 @@ PressureGiven past (Some (got k r)) = Unit {0}
 PressureGiven past (Some (took_temperature ut r)) = Unit {0}
 PressureGiven past (Some (took_pressure st up r)) = StepGiven past st
 
--- at every moment of the run the store agrees with the past so far, every answer is the one that the ledger calls for, and every
--- pressure goes by a step that the past gave
-abbrev pub FollowsThroughout : ℕ → List Entry → Moment → List Link → Type 0
-FollowsThroughout first past m [] = Agrees first past m
-FollowsThroughout first past m (k ∷ ks) =
-    Agrees first past m × Follows first past m k.outcome k.after × PressureGiven past k.outcome
-    × FollowsThroughout first (past_with k.outcome past) k.after ks
+-- at every moment of the run the store agrees with the past so far, every answer is the one that
+-- the ledger calls for, and every pressure goes by a step that the past gave
+abbrev pub FollowsThroughout : {X Y : Type 0} → Ghosts X Y →
+    ℕ → List Entry → StoreState X → List (Link X) → Type 0
+FollowsThroughout g first past s [] = Agrees first past (moment_of g s)
+FollowsThroughout g first past s (k ∷ ks) =
+    Agrees first past (moment_of g s)
+    × Follows first past (moment_of g s) k.outcome (moment_of g k.after)
+    × PressureGiven past k.outcome
+    × FollowsThroughout g first (past_with k.outcome past) k.after ks
 
 abbrev pub abandoning : ℕ → Request
 abandoning t = Abandon t
 
--- What a list of requests led to, from m to m': all of them were taken up in their order, with nothing held at first; then each ticket
--- that was still held was abandoned, in the order in which they were given; the log has what came of each. The moments are those at
--- which the store agrees with every past that it agreed with at first.
-pub record RunMade (m : Moment) (requests : List Request) (log : List (Option Entry)) (m' : Moment) : Type 0 where
-  pub calls : List Link
+-- What a list of requests led to, from s to s': all of them were taken up in their order, with
+-- nothing held at first; then each ticket that was still held was abandoned, in the order in which
+-- they were given; the log has what came of each. The stores between the calls are those at which
+-- the law holds, for every past that the store agreed with at first.
+pub record RunMade {X Y : Type 0} (g : Ghosts X Y) (s : StoreState X) (requests : List Request)
+    (log : List (Option Entry)) (s' : StoreState X) : Type 0 where
+  pub calls : List (Link X)
   pub asked : map request_in calls ≡ requests
-  pub between : Moment
+  pub between : StoreState X
   pub left : Held
-  pub made : Linked m nothing_held calls between left
-  pub closing : List Link
+  pub made : Linked g s nothing_held calls between left
+  pub closing : List (Link X)
   pub closed : map request_in closing ≡ map abandoning left.tickets
-  pub abandons : Linked between left closing m' (held [] left.steps)
+  pub abandons : Linked g between left closing s' (held [] left.steps)
   pub logged : log ≡ map outcome_in (calls ++ closing)
-  pub follows : (first : ℕ) (past : List Entry) → Agrees first past m → FollowsThroughout first past m (calls ++ closing)
+  pub follows : (first : ℕ) (past : List Entry) → Agrees first past (moment_of g s) →
+      FollowsThroughout g first past s (calls ++ closing)
   -- so a further run begins where this one ended
-  pub ends : (first : ℕ) (past : List Entry) → Agrees first past m → Agrees first (past_after log past) m'
+  pub ends : (first : ℕ) (past : List Entry) → Agrees first past (moment_of g s) →
+      Agrees first (past_after log past) (moment_of g s')
 
 -- what some requests added to a log, for contracts of private functions alone
-pub record Made (m : Moment) (h : Held) (requests : List Request) (before after : List (Option Entry)) (m' : Moment) (h' : Held) : Type 0 where
-  pub links : List Link
+pub record Made {X Y : Type 0} (g : Ghosts X Y) (s : StoreState X) (h : Held)
+    (requests : List Request) (before after : List (Option Entry))
+    (s' : StoreState X) (h' : Held) : Type 0 where
+  pub links : List (Link X)
   pub asked : map request_in links ≡ requests
   pub logged : after ≡ before ++ map outcome_in links
-  pub linked : Linked m h links m' h'
+  pub linked : Linked g s h links s' h'

@@ -30,6 +30,16 @@ impl Room {
         self.most
     }
 
+    /// Gives the room back without a run.
+    pub fn give_back(self) {
+        let Room {
+            hand: Hand { tickets, steps: _ },
+            log: _,
+            most: _,
+        } = self;
+        tickets.destroy_empty();
+    }
+
     // Room for a run of at most `most` requests, unless memory fails.
     pub fn new(heap: Global, most: usize) -> Result<Room, AllocError>
         ensures { IfOk result (λ room. room.most ≡ most) }

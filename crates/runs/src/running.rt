@@ -1,13 +1,13 @@
 // Lists of calls made on a store.
-ghost use Rattle.std.specs.Prelude.{◌≡◌, ◌+◌, ◌≤◌, [], map, length, take, Some, vec_len, vec_capacity};
+ghost use Rattle.std.specs.Prelude.{◌≡◌, ◌+◌, ◌≤◌, [], map, length, take, Some, IfOk, IfErr, vec_len, vec_capacity};
 ghost use Rattle.std.specs.VecDeque.{deque_len};
-ghost use Rattle.store.specs.Moments.{moment};
 ghost use Rattle.store.specs.declared.entries.Entry.TheVariants.{Begin as begun, Temperature as took_temperature};
 ghost use Rattle.runs.specs.declared.requests.Request.TheVariants.{Begin, Temperature, Pressure};
 ghost use Rattle.runs.specs.Hands.{held_by, Spare, OneMore};
 ghost use Rattle.runs.specs.Held.{held};
+ghost use Rattle.runs.specs.States.{store_state};
 ghost use Rattle.runs.specs.Runs.{Turn, Made, RunMade, abandoning};
-ghost use Rattle.runs.specs.Flashes.{CallOnFlash, Through, Onward};
+ghost use Rattle.runs.specs.Whole.{WholeRun, FormatRefused};
 
 use crate::hands::Hand;
 use crate::requests::Request;
@@ -21,8 +21,8 @@ use store::stores::Store;
 // Opens a change, and holds its ticket.
 fn begin<F: Flash>(store: &mut Store<F>, hand: &mut Hand) -> Result<u32, Refusal>
     requires { Spare 1 hand.old }
-    ensures turn { Turn (moment F.Flash store.old) (held_by hand.old) Begin (Some (begun result)) (moment F.Flash store.new) (held_by hand.new) }
-    ensures flash { store.new.flash ≡ store.old.flash }
+    ensures turn { Turn F.Flash (store_state F.Flash store.old) (held_by hand.old) Begin
+        (Some (begun result)) (store_state F.Flash store.new) (held_by hand.new) }
     ensures room { OneMore hand.old hand.new }
 {
     Ok(hand.keep(store.begin()?))
@@ -35,8 +35,8 @@ fn temperature<F: Flash>(
     ut: i32,
 ) -> Result<StepNumbers, Refusal>
     requires { Spare 1 hand.old }
-    ensures turn { Turn (moment F.Flash store.old) (held_by hand.old) (Temperature ut) (Some (took_temperature ut result)) (moment F.Flash store.new) (held_by hand.new) }
-    ensures flash { store.new.flash ≡ store.old.flash }
+    ensures turn { Turn F.Flash (store_state F.Flash store.old) (held_by hand.old) (Temperature ut)
+        (Some (took_temperature ut result)) (store_state F.Flash store.new) (held_by hand.new) }
     ensures room { OneMore hand.old hand.new }
 {
     Ok(hand.keep_step(store.temperature(ut)?))
@@ -44,8 +44,9 @@ fn temperature<F: Flash>(
 
 // Takes a pressure with the step at a place, if it is held.
 fn pressure<F: Flash>(store: &mut Store<F>, hand: &mut Hand, place: usize, up: i32) -> Option<Entry>
-    ensures turn { Turn (moment F.Flash store.old) (held_by hand.old) (Pressure place up) result (moment F.Flash store.new) (held_by hand.new) }
-    ensures flash { store.new.flash ≡ store.old.flash }
+    ensures turn { Turn F.Flash (store_state F.Flash store.old) (held_by hand.old)
+        (Pressure place up)
+        result (store_state F.Flash store.new) (held_by hand.new) }
     ensures room { OneMore hand.old hand.new }
 {
     let taken = hand.take_step(place)?;
@@ -59,8 +60,8 @@ fn pressure<F: Flash>(store: &mut Store<F>, hand: &mut Hand, place: usize, up: i
 // Takes up one request: makes the call that it asks for, if what it names is held.
 fn turn<F: Flash>(store: &mut Store<F>, hand: &mut Hand, request: Request) -> Option<Entry>
     requires { Spare 1 hand.old }
-    ensures turn { Turn (moment F.Flash store.old) (held_by hand.old) request result (moment F.Flash store.new) (held_by hand.new) }
-    ensures flash { CallOnFlash F.Flash store.old.flash result store.new.flash }
+    ensures turn { Turn F.Flash (store_state F.Flash store.old) (held_by hand.old) request
+        result (store_state F.Flash store.new) (held_by hand.new) }
     ensures room { OneMore hand.old hand.new }
 {
     let entry = match request {
@@ -108,8 +109,8 @@ fn take_up<F: Flash>(
 )
     requires hand { Spare (length requests.now) hand.old }
     requires log { vec_len log.old + length requests.now ≤ vec_capacity log.old }
-    ensures made { Made (moment F.Flash store.old) (held_by hand.old) requests.now log.old.items log.new.items (moment F.Flash store.new) (held_by hand.new) }
-    ensures flash { Onward F.Flash log.old.items store.old.flash log.new.items store.new.flash }
+    ensures made { Made F.Flash (store_state F.Flash store.old) (held_by hand.old) requests.now
+        log.old.items log.new.items (store_state F.Flash store.new) (held_by hand.new) }
     ensures len { vec_len log.new ≡ vec_len log.old + length requests.now }
     ensures room { vec_capacity log.new ≡ vec_capacity log.old }
     ensures few { deque_len hand.new.tickets ≤ deque_len hand.old.tickets + length requests.now }
@@ -123,8 +124,9 @@ fn take_up<F: Flash>(
 // Abandons each ticket that is still held, in the order in which they were given.
 fn abandon_each<F: Flash>(store: &mut Store<F>, hand: &mut Hand, log: &mut Vec<Option<Entry>>)
     requires log { vec_len log.old + deque_len hand.old.tickets ≤ vec_capacity log.old }
-    ensures made { Made (moment F.Flash store.old) (held_by hand.old) (map abandoning (held_by hand.old).tickets) log.old.items log.new.items (moment F.Flash store.new) (held [] (held_by hand.old).steps) }
-    ensures flash { Onward F.Flash log.old.items store.old.flash log.new.items store.new.flash }
+    ensures made { Made F.Flash (store_state F.Flash store.old) (held_by hand.old)
+        (map abandoning (held_by hand.old).tickets) log.old.items log.new.items
+        (store_state F.Flash store.new) (held [] (held_by hand.old).steps) }
     ensures none { deque_len hand.new.tickets ≡ 0 }
 {
     while let Some(ticket) = hand.tickets.pop_front() {
@@ -137,17 +139,18 @@ fn abandon_each<F: Flash>(store: &mut Store<F>, hand: &mut Hand, log: &mut Vec<O
     }
 }
 
-// Makes the calls that are asked for, one after the other, on the store, and holds the tickets and the steps that they give; at the end it
-// abandons the tickets that it still holds. Answers what came of each request and then of each of these abandons: the call
-// with its answer, or none where the request named a ticket that was not held or a step that was not there. It takes up as many
-// requests as there is room for.
+/// Makes the calls that are asked for, one after the other, on the store, and holds the tickets and
+/// the steps that they give; at the end it abandons the tickets that it still holds. Answers what
+/// came of each request and then of each of these abandons: the call with its answer, or none where
+/// the request named a ticket that was not held or a step that was not there. It takes up as many
+/// requests as there is room for.
 pub fn make_calls<F: Flash>(
     store: &mut Store<F>,
     requests: &[Request],
     room: Room,
 ) -> Vec<Option<Entry>>
-    ensures run { RunMade (moment F.Flash store.old) (take room.most requests.now) result.items (moment F.Flash store.new) }
-    ensures flash { Through F.Flash store.old.flash result.items store.new.flash }
+    ensures run { RunMade F.Flash (store_state F.Flash store.old) (take room.most requests.now)
+        result.items (store_state F.Flash store.new) }
 {
     let Room {
         mut hand,
@@ -160,4 +163,27 @@ pub fn make_calls<F: Flash>(
     let Hand { tickets, steps: _ } = hand;
     tickets.destroy_empty();
     log
+}
+
+/// Formats the store, and then makes the calls that are asked for, as `make_calls` does. Where the
+/// format is refused it answers that refusal, and makes no other call.
+///
+/// Its contract is the law of a whole run, from the format on: docs/LEDGER.md tells it in words.
+pub fn format_and_make_calls<F: Flash>(
+    store: &mut Store<F>,
+    requests: &[Request],
+    room: Room,
+) -> Result<Vec<Option<Entry>>, Refusal>
+    ensures run { IfOk result (λ log. WholeRun F.Flash (store_state F.Flash store.old)
+        (take room.most requests.now) log.items (store_state F.Flash store.new)) }
+    ensures refused { IfErr result (λ why. FormatRefused F.Flash (store_state F.Flash store.old) why
+        (store_state F.Flash store.new)) }
+{
+    match store.format() {
+        Ok(_) => Ok(make_calls(store, requests, room)),
+        Err(why) => {
+            room.give_back();
+            Err(why)
+        }
+    }
 }

@@ -1,2 +1,5 @@
+pub mod Simulated
 pub mod Sessions
 pub mod Held
+pub mod Exchanges
+pub mod Requests

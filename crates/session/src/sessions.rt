@@ -1,17 +1,17 @@
 // A session: the store on a simulator, and the ticket and the step that it holds from one line to the next.
-ghost use Rattle.std.specs.Prelude.{◌≡◌, None};
+ghost use Rattle.std.specs.Prelude.{◌≡◌, IfOk, None};
 ghost use Rattle.lines.specs.declared.answers.Answer.TheVariants.{Number};
 ghost use Rattle.lines.specs.declared.commands.Command.TheVariants.{Plan, Format, Recover, Begin, Put, Commit, Abandon, Get, Temperature, Pressure};
 ghost use Rattle.lines.specs.Commands.{command_of as command_in_line};
-ghost use Rattle.session.specs.Sessions.{Answered, Carried, LetGo, answer_of, refused};
-ghost use Rattle.store.specs.Moments.{moment};
-ghost use Rattle.session.specs.Held.{session};
+ghost use Rattle.session.specs.Sessions.{Answered, Carried, LetGo, answer_of, blank_session, refused};
+ghost use Rattle.session.specs.Held.{session, simulated_store};
 
-use flash::interface::Flash;
 use flash::plans::PlanEntry;
+use flash::units::Unit;
 use lines::answers::Answer;
 use lines::commands::{Command, command_of};
 use simulator::Simulator;
+use std::alloc::{AllocError, Global};
 use store::refusals::Refusal;
 use store::steps::Step;
 use store::stores::Store;
@@ -19,6 +19,12 @@ use store::tickets::Ticket;
 
 // The answer to a line that is no command, to an entry for a full plan, and where there is no ticket or no step: none of these is a call of the store.
 const UNKNOWN: Answer = Answer::Refused(17);
+
+const BANKS: usize = 2;
+
+const UNITS: usize = 64;
+
+const FIRST_TICKET: u32 = 1;
 
 // The ticket of the change that was begun, and the step of the last temperature, each until it is used.
 pub struct Session {
@@ -48,9 +54,19 @@ fn number_answer(answer: Result<u32, Refusal>) -> Answer
 }
 
 impl Session {
+    /// A session on a new simulator of 2 banks of 64 units, whose first ticket is 1.
+    pub fn blank(heap: Global) -> Result<Session, AllocError>
+        ensures { IfOk result (λ s. session s ≡ blank_session) }
+    {
+        let table = vec![in heap; Unit::Blank; BANKS * UNITS]?;
+        // never refused: the table has as many units as the banks
+        let flash = Simulator::new(BANKS, UNITS, table).unwrap();
+        Ok(Session::new(Store::new(flash, FIRST_TICKET)))
+    }
+
     // A session on a store, with no change and no step held.
     pub fn new(store: Store<Simulator>) -> Session
-        ensures store { (session result).store ≡ moment ⟦<Simulator as Flash>⟧ store }
+        ensures store { (session result).store ≡ simulated_store store }
         ensures flash { result.store.flash ≡ store.flash }
         ensures ticket { (session result).ticket ≡ None }
         ensures step { (session result).step ≡ None }
@@ -66,7 +82,6 @@ impl Session {
     fn let_go(&mut self)
         ensures abandoned { LetGo (session self.old).ticket (session self.old).store (session self.new).store }
         ensures held { (session self.new).ticket ≡ None }
-        ensures plan { (session self.new).plan ≡ (session self.old).plan }
         ensures step { (session self.new).step ≡ (session self.old).step }
     {
         if let Some(ticket) = self.ticket.take() {
@@ -122,6 +137,7 @@ impl Session {
         }
     }
 
+    #[tactic(auto, using(crate::proofs::Powering::committed))]
     fn commit(&mut self) -> Answer
         ensures { Carried (session self.old) Commit result (session self.new) }
     {
@@ -219,7 +235,8 @@ impl Session {
 
     // Ends the session: a change that is held is abandoned.
     pub fn finish(self) -> Store<Simulator>
-        ensures abandoned { LetGo (session self).ticket (session self).store (moment ⟦<Simulator as Flash>⟧ result) }
+        ensures abandoned { LetGo (session self).ticket (session self).store
+            (simulated_store result) }
         ensures flash { result.flash ≡ self.store.flash }
     {
         let Session {

@@ -1,27 +1,7 @@
 // A whole session, line by line.
+use crate::exchanges::answer_all;
 use crate::sessions::Session;
-use flash::units::Unit;
-use simulator::Simulator;
-use std::alloc::Global;
-use std::fmt::Write;
 use std::test::Fail;
-use store::stores::Store;
-
-// A session on a simulator of 2 blank banks of 64 units.
-fn blank_session(heap: Global) -> Result<Session, Fail> {
-    let table = vec![in heap; Unit::Blank; 128]?;
-    let simulator = Simulator::new(2, 64, table).ok().ok_or("simulator")?;
-    Ok(Session::new(Store::new(simulator, 1)))
-}
-
-// What is printed to these lines, each answer with a line end.
-fn printed(heap: Global, session: &mut Session, lines: &str) -> Result<String, Fail> {
-    let mut text = String::new(heap);
-    for line in lines.lines() {
-        writeln!(text, "{}", session.answer(line.as_bytes()))?;
-    }
-    Ok(text)
-}
 
 // A session whose answers were worked out without this program: cut commits, formats and recovers between them, values and names of every kind.
 const LINES: &str = "\
@@ -60,9 +40,16 @@ const ANSWERS: &str = "\
 
 #[test]
 fn a_session_is_answered(rt: HostRuntime) -> Result<(), Fail> {
-    let mut session = blank_session(rt.alloc())?;
-    let answers = printed(rt.alloc(), &mut session, LINES);
+    let mut session = Session::blank(rt.alloc())?;
+    let mut written = Vec::new(rt.alloc());
+    let done = answer_all(
+        rt.alloc(),
+        &mut session,
+        &mut LINES.as_bytes(),
+        &mut written,
+    );
     let _ = session.finish();
-    assert_eq!(rt; answers?.as_str(), ANSWERS);
+    assert!(rt; done.is_ok());
+    assert_eq!(rt; written.as_slice(), ANSWERS.as_bytes());
     Ok(())
 }

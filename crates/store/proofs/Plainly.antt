@@ -23,7 +23,7 @@ use Rattle.store.specs.Changes.{put_answer, put_change}
 use Rattle.store.specs.Readings.{refusal_of, unless_absent, step_of, line_of, temperature_answer, pressure_answer}
 use Rattle.store.specs.Memories.{Memory, cold, ready, changing}
 use Rattle.store.specs.Moments.{Moment}
-use Rattle.store.specs.Calls.{limit, Begins, Puts, Abandons, looked, Looks, get_answer}
+use Rattle.store.specs.Calls.{last_number, Begins, Puts, Abandons, looked, Looks, get_answer}
 use Rattle.store.specs.Ledger.{OpenChange, Ledger, laid, pairs_by, number_by, with_put, ledger_of, begins}
 use Rattle.store.specs.Law.{unless_doubt, begin_answer, with_ticket, line_with, line_answer, AgreesIn, StepStands, Agrees, CallFollowsLedger}
 use Rattle.store.proofs.Following.{moment_at, if_both, no_step, on_agrees, follows, plainly}
@@ -131,14 +131,14 @@ module _ (first : ℕ) (past : List Entry) (s : FlashState) (n : ℕ) where
       plainly first past Begin (at cold) m' r (Err Cold) cold n d
       (follows first past (at cold) (Begin (Err Cold)) (at cold) a (no_step l (Begin (Err Cold)) refl) (by_doubt _ _ a.memory.in_doubt refl) a.memory a.cold_since a.next tt)
   begin_follows (ready rd) a r m' d =
-      if_both (Step (ready rd) (Begin r) m') (eqb n limit) d
+      if_both (Step (ready rd) (Begin r) m') (eqb n last_number) d
       (λ e x. plainly first past Begin (at (ready rd)) m' r (Err NoTickets) (ready rd) n x
       (follows first past (at (ready rd)) (Begin (Err NoTickets)) (at (ready rd)) a (no_step l (Begin (Err NoTickets)) refl)
-      (begin_by a.memory.no_doubt a.memory.same_open a.next (Err NoTickets) (sym (cond-true (eqb n limit) (Err NoTickets) (Ok n) e)))
+      (begin_by a.memory.no_doubt a.memory.same_open a.next (Err NoTickets) (sym (cond-true (eqb n last_number) (Err NoTickets) (Ok n) e)))
       a.memory a.cold_since a.next tt))
       (λ e x. plainly first past Begin (at (ready rd)) m' r (Ok n) (changing rd n []) (n + 1) x
       (follows first past (at (ready rd)) (Begin (Ok n)) (moment_at s (changing rd n []) (n + 1)) a (no_step l (Begin (Ok n)) refl)
-      (begin_by a.memory.no_doubt a.memory.same_open a.next (Ok n) (sym (cond-false (eqb n limit) (Err NoTickets) (Ok n) e))) (
+      (begin_by a.memory.no_doubt a.memory.same_open a.next (Ok n) (sym (cond-false (eqb n last_number) (Err NoTickets) (Ok n) e))) (
         record {
           known = a.memory.known;
           same_pairs = a.memory.same_pairs;

@@ -17,9 +17,9 @@ use Rattle.store.specs.declared.refusals.Refusal.TheVariants.{Cold, WrongTicket,
 use Rattle.store.specs.Stops.{is_roomy, Stop, stops, refused_at}
 use Rattle.store.specs.Memories.{Memory, cold, ready, changing, Known}
 use Rattle.store.specs.Moments.{Moment}
-use Rattle.store.specs.Calls.{limit, If, recover_answer, recover_memory, Recovers, written, written_memory, Formats, CommitsOpen, Commits}
+use Rattle.store.specs.Calls.{last_number, If, recover_answer, recover_memory, Recovers, written, written_memory, Formats, CommitsOpen, Commits}
 use Rattle.store.specs.Ledger.{OpenChange, Ledger, ledger, laid, pairs_by, number_by, one_more, change_in, resolves, stands, ledger_of, cut_since_recover}
-use Rattle.store.specs.Law.{CutExactlyBelow, CommitOpen, CommitRight, Settled, InDoubt, AgreesIn, Agrees, CallFollowsLedger, BeginsPast}
+use Rattle.store.specs.Law.{CutExactlyBelow, SettledCommitRight, CommitRight, Settled, InDoubt, AgreesIn, Agrees, CallFollowsLedger, BeginsPast}
 use Rattle.store.proofs.Following.{moment_at, if_both, if_true, if_false, laid_last, no_step, follows, plainly}
 
 pub roomy_usable : (s : FlashState) → 2 ≤ length s.units → 64 ≤ s.width → is_roomy s ≡ true
@@ -141,22 +141,22 @@ module _ (first : ℕ) (past : List Entry) (m : Moment) where
 
   -- where a ledger with no change in doubt has this open change, the ticket is the right one, and the number is not the last
   commit_right : (shown t : ℕ) (ch : List Pair) (r : Result ℕ Refusal) (number : ℕ) → l.doubt ≡ None → l.opened ≡ Some (record { ticket = t; pairs = ch }) → eqb shown t ≡ true →
-      number ≡ number_by l → eqb number limit ≡ false → CutExactlyBelow m.flash (pairs_by l) number ch r → CommitRight m.flash l l.doubt shown r
+      number ≡ number_by l → eqb number last_number ≡ false → CutExactlyBelow m.flash (pairs_by l) number ch r → CommitRight m.flash l l.doubt shown r
   commit_right shown t ch r number d o e same last x =
       subst (λ (q : Option (List Pair)). CommitRight m.flash l q shown r) (sym d)
-      (subst (λ (q : Option OpenChange). CommitOpen m.flash l q shown r) (sym o)
+      (subst (λ (q : Option OpenChange). SettledCommitRight m.flash l q shown r) (sym o)
       (if_true _ _ e
-      (subst (λ (n : ℕ). If (eqb n limit) (r ≡ Err LastNumber) (CutExactlyBelow m.flash (pairs_by l) n ch r)) same (if_false _ _ last x))))
+      (subst (λ (n : ℕ). If (eqb n last_number) (r ≡ Err LastNumber) (CutExactlyBelow m.flash (pairs_by l) n ch r)) same (if_false _ _ last x))))
 
-  commit_refused : (shown : ℕ) (o : Option OpenChange) (why : Refusal) → l.doubt ≡ None → l.opened ≡ o → CommitOpen m.flash l o shown (Err why) →
+  commit_refused : (shown : ℕ) (o : Option OpenChange) (why : Refusal) → l.doubt ≡ None → l.opened ≡ o → SettledCommitRight m.flash l o shown (Err why) →
       CommitRight m.flash l l.doubt shown (Err why)
   commit_refused shown o why d e x =
       subst (λ (q : Option (List Pair)). CommitRight m.flash l q shown (Err why)) (sym d)
-      (subst (λ (q : Option OpenChange). CommitOpen m.flash l q shown (Err why)) (sym e) x)
+      (subst (λ (q : Option OpenChange). SettledCommitRight m.flash l q shown (Err why)) (sym e) x)
 
   -- all writes completed
   commit_whole : (a : Agrees first past m) → false ≡ cut_since_recover past → (shown t : ℕ) (rd : Reading) (ch : List Pair) → Settled m.flash l rd (Some (record { ticket = t; pairs = ch })) → eqb shown t ≡ true →
-      eqb rd.number limit ≡ false → (s' : FlashState) (n' : ℕ) → n' ≡ m.next →
+      eqb rd.number last_number ≡ false → (s' : FlashState) (n' : ℕ) → n' ≡ m.next →
       Finished m.flash (writes_needed m.flash.width rd ch) (committed m.flash.width rd ch (rd.number + 1)) s' →
       CallFollowsLedger first past m (Commit shown (Ok (rd.number + 1))) (moment_at s' (ready (committed m.flash.width rd ch (rd.number + 1))) n')
   commit_whole a warm shown t rd ch k e last s' n' next f =
@@ -186,7 +186,7 @@ module _ (first : ℕ) (past : List Entry) (m : Moment) where
 
   -- a write was cut
   commit_cut : (a : Agrees first past m) (shown t : ℕ) (rd : Reading) (ch : List Pair) → Settled m.flash l rd (Some (record { ticket = t; pairs = ch })) → eqb shown t ≡ true →
-      eqb rd.number limit ≡ false → (s' : FlashState) (n' : ℕ) → n' ≡ m.next → (stop : Stop) → CutCommit stops m.flash rd ch (rd.number + 1) s' stop →
+      eqb rd.number last_number ≡ false → (s' : FlashState) (n' : ℕ) → n' ≡ m.next → (stop : Stop) → CutCommit stops m.flash rd ch (rd.number + 1) s' stop →
       CallFollowsLedger first past m (Commit shown (Err (WriteStopped stop.1))) (moment_at s' cold n')
   commit_cut a shown t rd ch k e last s' n' next stop f =
       follows first past m (Commit shown (Err (WriteStopped stop.1))) (moment_at s' cold n') a (no_step l (Commit shown (Err (WriteStopped stop.1))) refl)
@@ -220,7 +220,7 @@ module _ (first : ℕ) (past : List Entry) (m : Moment) where
       (subst (λ (q : Result ℕ Refusal). CallFollowsLedger first past m (Commit shown q) (moment_at m'.flash mem m'.next)) (sym er) x)
 
   commit_by : (a : Agrees first past m) → false ≡ cut_since_recover past → (shown t : ℕ) (rd : Reading) (ch : List Pair) →
-      Settled m.flash l rd (Some (record { ticket = t; pairs = ch })) → eqb shown t ≡ true → eqb rd.number limit ≡ false → (r : Result ℕ Refusal) (m' : Moment) → m'.next ≡ m.next →
+      Settled m.flash l rd (Some (record { ticket = t; pairs = ch })) → eqb shown t ≡ true → eqb rd.number last_number ≡ false → (r : Result ℕ Refusal) (m' : Moment) → m'.next ≡ m.next →
       (result : Result (Unit {0}) Stop) →
       MatchResult result (λ _. Finished m.flash (writes_needed m.flash.width rd ch) (committed m.flash.width rd ch (rd.number + 1)) m'.flash) (CutCommit stops m.flash rd ch (rd.number + 1) m'.flash) →
       r ≡ written (rd.number + 1) (refused_at result) → m'.memory ≡ written_memory (committed m.flash.width rd ch (rd.number + 1)) (refused_at result) →
@@ -234,11 +234,11 @@ module _ (first : ℕ) (past : List Entry) (m : Moment) where
       Settled m.flash l rd (Some (record { ticket = t; pairs = ch })) → Change ch → eqb shown t ≡ true → (r : Result ℕ Refusal) (m' : Moment) → CommitsOpen m rd ch r m' →
       CallFollowsLedger first past m (Commit shown r) m'
   commit_open a warm shown t rd ch k c e r m' d =
-      if_both (CallFollowsLedger first past m (Commit shown r) m') (eqb rd.number limit) d
+      if_both (CallFollowsLedger first past m (Commit shown r) m') (eqb rd.number last_number) d
       (λ last x. plainly first past (Commit shown) m m' r (Err LastNumber) (ready rd) m.next x
       (follows first past m (Commit shown (Err LastNumber)) (moment_at m.flash (ready rd) m.next) a (no_step l (Commit shown (Err LastNumber)) refl)
       (commit_refused shown (Some (record { ticket = t; pairs = ch })) LastNumber k.no_doubt k.same_open
-      (if_true _ _ e (if_true _ _ (ap (λ n. eqb n limit) (sym k.same_number) ∙ last) refl)))
+      (if_true _ _ e (if_true _ _ (ap (λ n. eqb n last_number) (sym k.same_number) ∙ last) refl)))
       (record { known = k.known; same_pairs = k.same_pairs; same_number = k.same_number; same_open = refl; no_doubt = k.no_doubt })
       warm a.next tt))
       (λ last x. commit_by a warm shown t rd ch k e last r m' x.next x.run.result

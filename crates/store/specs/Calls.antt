@@ -22,8 +22,8 @@ use Rattle.store.specs.Stops.{is_roomy, FormatRun, CommitRun}
 use Rattle.store.specs.Readings.{temperature_answer, pressure_answer}
 
 -- the last number of 32 bits: no ticket has it, and where the store has it nothing can be committed any more
-abbrev pub limit : ℕ
-limit = 4294967295
+abbrev pub last_number : ℕ
+last_number = 4294967295
 
 abbrev pub If : Bool → Type 0 → Type 0 → Type 0
 If true a b = a
@@ -83,7 +83,7 @@ Formats m r m' = If (is_roomy m.flash) (Formatted m r m') (Refused m r SmallFlas
 
 abbrev pub Opens : Moment → Reading → Result ℕ Refusal → Moment → Type 0
 Opens m s r m' =
-    If (m.next == limit) (Plain m r (Err NoTickets) m.memory m.next m')
+    If (m.next == last_number) (Plain m r (Err NoTickets) m.memory m.next m')
     (Plain m r (Ok m.next) (changing s m.next []) (m.next + 1) m')
 
 abbrev pub Begins : Memory → Moment → Result ℕ Refusal → Moment → Type 0
@@ -110,7 +110,8 @@ pub record Committed (m : Moment) (s : Reading) (change : List Pair) (r : Result
 -- 10 drops the change
 abbrev pub CommitsOpen : Moment → Reading → List Pair → Result ℕ Refusal → Moment → Type 0
 CommitsOpen m s change r m' =
-    If (s.number == limit) (Plain m r (Err LastNumber) (ready s) m.next m') (Committed m s change r m')
+    If (s.number == last_number) (Plain m r (Err LastNumber) (ready s) m.next m')
+    (Committed m s change r m')
 
 abbrev pub Commits : Memory → Moment → ℕ → Result ℕ Refusal → Moment → Type 0
 Commits cold m shown r m' = Refused m r Cold m'

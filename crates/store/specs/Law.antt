@@ -23,7 +23,7 @@ use Rattle.store.specs.Stops.{is_roomy}
 use Rattle.store.specs.Readings.{refusal_of, unless_absent, line_of, temperature_answer, pressure_answer}
 use Rattle.store.specs.Memories.{Memory, cold, ready, changing, Known}
 use Rattle.store.specs.Moments.{Moment}
-use Rattle.store.specs.Calls.{limit, If, get_answer}
+use Rattle.store.specs.Calls.{last_number, If, get_answer}
 use Rattle.store.specs.Ledger.{OpenChange, Ledger, laid, pairs_by, number_by, ledger_of, begins, cut_since_recover}
 
 -- ---- which answer the ledger calls for
@@ -35,7 +35,7 @@ unless_doubt (Some change) answer = Err Cold
 
 -- begin: 4 while a change is open, then 5 at the last ticket number, else the next ticket's number
 abbrev pub begin_answer : Option OpenChange → ℕ → Result ℕ Refusal
-begin_answer None next = cond (next == limit) (Err NoTickets) (Ok next)
+begin_answer None next = cond (next == last_number) (Err NoTickets) (Ok next)
 begin_answer (Some o) next = Err ChangeOpen
 
 -- put and abandon: 6 unless the ticket's number is that of the open change, else by that change
@@ -69,14 +69,18 @@ pub record CutExactlyBelow (s : FlashState) (pairs : List Pair) (number : ℕ) (
   pub cut : s.charge < writes_needed s.width found change → r ≡ Err (WriteStopped (place_cut (commit_writes s.width found change (number + 1)) s.charge))
   pub whole : writes_needed s.width found change ≤ s.charge → r ≡ Ok (number + 1)
 
-abbrev pub CommitOpen : FlashState → Ledger → Option OpenChange → ℕ → Result ℕ Refusal → Type 0
-CommitOpen s l None shown r = r ≡ Err WrongTicket
-CommitOpen s l (Some o) shown r =
-    If (shown == o.ticket) (If (number_by l == limit) (r ≡ Err LastNumber) (CutExactlyBelow s (pairs_by l) (number_by l) o.pairs r))
+-- a commit while nothing is in doubt
+abbrev pub SettledCommitRight :
+    FlashState → Ledger → Option OpenChange → ℕ → Result ℕ Refusal → Type 0
+SettledCommitRight s l None shown r = r ≡ Err WrongTicket
+SettledCommitRight s l (Some o) shown r =
+    If (shown == o.ticket)
+    (If (number_by l == last_number) (r ≡ Err LastNumber)
+    (CutExactlyBelow s (pairs_by l) (number_by l) o.pairs r))
     (r ≡ Err WrongTicket)
 
 abbrev pub CommitRight : FlashState → Ledger → Option (List Pair) → ℕ → Result ℕ Refusal → Type 0
-CommitRight s l None shown r = CommitOpen s l l.opened shown r
+CommitRight s l None shown r = SettledCommitRight s l l.opened shown r
 CommitRight s l (Some change) shown r = r ≡ Err Cold
 
 -- a temperature of the past took UT and gave this step

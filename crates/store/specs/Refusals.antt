@@ -1,5 +1,6 @@
--- The numbers by which refused calls of the store are known.
-use Rattle.std.specs.Prelude.{ℕ}
+-- The numbers by which refused calls of the store are known, and what two of them carry: 11 a
+-- place, 13 a key.
+use Rattle.std.specs.Prelude.{ℕ, Option, Some, None}
 use Rattle.store.specs.declared.refusals.Refusal.{Refusal}
 use Rattle.store.specs.declared.refusals.Refusal.TheVariants.{Cold, SmallFlash, NoHeader, ChangeOpen, NoTickets, WrongTicket, UnknownKey, NotAdmitted, ChangeFull, LastNumber, WriteStopped, RawValue, Absent, OldStep, NoTemperature, NoPressure}
 
@@ -20,3 +21,14 @@ refusal_number (Absent key) = 13
 refusal_number OldStep = 14
 refusal_number NoTemperature = 15
 refusal_number NoPressure = 16
+
+-- 11 carries the place of the write that the flash did not complete: its bank and its unit, where
+-- an erase has none
+abbrev pub refusal_place : Refusal → Option (ℕ × Option ℕ)
+refusal_place (WriteStopped place) = Some place
+refusal_place other = None
+
+-- 13 carries the lowest key that is needed and has no value
+abbrev pub refusal_key : Refusal → Option ℕ
+refusal_key (Absent key) = Some key
+refusal_key other = None

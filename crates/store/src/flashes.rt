@@ -6,7 +6,7 @@ ghost use Rattle.layout.specs.Held.{pairs_of};
 ghost use Rattle.journal.specs.Reading.{reads};
 ghost use Rattle.journal.specs.Log.{reading_of};
 ghost use Rattle.store.specs.Stops.{is_roomy, CommitRun};
-ghost use Rattle.store.specs.Flashes.{OnePowerUp, FormatsItself};
+ghost use Rattle.store.specs.Flashes.{OnePowerUp, FormatsItself, CommittedFlash};
 
 use crate::refusals::Refusal;
 use flash::faults::FlashFault;
@@ -51,7 +51,8 @@ pub(crate) fn write<F: Flash>(
 ) -> Result<(), Refusal>
     requires { number ≡ standing.now.number + 1 }
     ensures run { CommitRun (seen F.Flash flash.old) (reading_of standing.now) (pairs_of change.now) result (seen F.Flash flash.new) }
-    ensures plan { F.Flash.plan flash.new ≡ F.Flash.plan flash.old }
+    ensures itself { CommittedFlash F.Flash (reading_of standing.now) (pairs_of change.now)
+        flash.old flash.new }
 {
     write_change(flash, standing, change, number).map_err(|fault| Refusal::WriteStopped(
         fault.place(),

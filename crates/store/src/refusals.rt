@@ -1,7 +1,7 @@
 // Why a call of the store was refused.
 ghost use Rattle.std.specs.Prelude.{◌≡◌};
 ghost use Rattle.store.specs.declared.refusals.Refusal.TheVariants.{Absent as key_absent};
-ghost use Rattle.store.specs.Refusals.{refusal_number};
+ghost use Rattle.store.specs.Refusals.{refusal_number, refusal_place, refusal_key};
 ghost use Rattle.store.specs.Readings.{refusal_of};
 
 use compensation::readings::ReadingRefusal;
@@ -70,6 +70,28 @@ impl Refusal {
             Refusal::OldStep => 14,
             Refusal::NoTemperature => 15,
             Refusal::NoPressure => 16,
+        }
+    }
+
+    /// Where the write that stopped was to go, if this is 11: bank and unit, and no unit for an
+    /// erase. Each other refusal has no place.
+    pub fn place(self) -> Option<Place>
+        ensures { result ≡ refusal_place self }
+    {
+        match self {
+            Refusal::WriteStopped(place) => Some(place),
+            _ => None,
+        }
+    }
+
+    /// The key, 1 to 11, that is needed and has no value, if this is 13: the lowest such key. Each
+    /// other refusal has no key.
+    pub fn key(self) -> Option<u8>
+        ensures { result ≡ refusal_key self }
+    {
+        match self {
+            Refusal::Absent(key) => Some(key),
+            _ => None,
         }
     }
 }

@@ -1,6 +1,6 @@
 // The image is a flash.
 ghost use Rattle.std.specs.Prelude.{◌≡◌};
-ghost use Rattle.flash.specs.Calls.{Program, Erase, PoweredUp};
+ghost use Rattle.flash.specs.Calls.{Program, Erase, PoweredUp, Untouched};
 ghost use Rattle.flash.specs.Plans.{no_plan};
 ghost use Rattle.image.specs.ImageOpening.{image_bytes};
 ghost use Rattle.image.specs.ImageStates.{image_units, image_width, image_on, image_charge, image_flash, image_after_program, image_after_erase, image_after_power_up};
@@ -30,6 +30,10 @@ impl Flash for Image {
 
     ghost powered = { λ m m'. image_bytes m' ≡ image_after_power_up (image_bytes m) };
 
+    ghost programmed = { λ m b u v m'. image_bytes m' ≡ image_after_program (image_bytes m) b u v };
+
+    ghost erased = { λ m b m'. image_bytes m' ≡ image_after_erase (image_bytes m) b };
+
     ghost formed = { λ m. image_formed (image_bytes m) (opened (image_bytes m) m.opened) };
 
     fn banks(&self) -> usize {
@@ -56,6 +60,7 @@ impl Flash for Image {
 
     fn program(&mut self, bank: usize, unit: usize, value: u64) -> Result<(), ImageFault>
         ensures programs { Program ⟦<ImageFault as FlashFault>⟧ (image_flash (image_bytes self.old)) bank unit value (image_flash (image_bytes self.new)) result }
+        ensures untouched { Untouched ⟦<ImageFault as FlashFault>⟧ self.old result self.new }
         ensures buffer { image_bytes self.new ≡ image_after_program (image_bytes self.old) bank unit value }
     {
         if self.read(bank, unit)? != Unit::Blank {
@@ -76,6 +81,7 @@ impl Flash for Image {
     // kept: the gate of `read` once more, for the reason given there; here no unit is asked for, and the fault has none.
     fn erase(&mut self, bank: usize) -> Result<(), ImageFault>
         ensures erases { Erase ⟦<ImageFault as FlashFault>⟧ (image_flash (image_bytes self.old)) bank (image_flash (image_bytes self.new)) result }
+        ensures untouched { Untouched ⟦<ImageFault as FlashFault>⟧ self.old result self.new }
         ensures buffer { image_bytes self.new ≡ image_after_erase (image_bytes self.old) bank }
     {
         let header = self.header();

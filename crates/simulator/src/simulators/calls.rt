@@ -1,6 +1,6 @@
 // The simulator is a flash.
 ghost use Rattle.std.specs.Prelude.{◌≡◌, ◌+◌, ◌*◌, ◌<◌, ◌≤◌, vec_len};
-ghost use Rattle.flash.specs.Calls.{Program, Erase, PoweredUp};
+ghost use Rattle.flash.specs.Calls.{Program, Erase, PoweredUp, Untouched};
 ghost use Rattle.simulator.specs.Tables.{rows};
 ghost use Rattle.simulator.specs.SimulatorStates.{state_of, flash_of, paid, turned_off, next_entry, after_power_up, after_program, after_erase};
 ghost use Rattle.simulator.specs.Formed.{table_formed, items, full_of};
@@ -69,6 +69,10 @@ impl Flash for Simulator {
 
     ghost powered = { λ s s'. state_of s' ≡ after_power_up (state_of s) };
 
+    ghost programmed = { λ s b u v s'. state_of s' ≡ after_program (state_of s) b u v };
+
+    ghost erased = { λ s b s'. state_of s' ≡ after_erase (state_of s) b };
+
     ghost formed = { λ s. table_formed s.banks s.width (items s) s.on s.entry.charge (full_of s) s.shape.3 s.fits s.values };
 
     fn banks(&self) -> usize {
@@ -93,6 +97,7 @@ impl Flash for Simulator {
 
     fn program(&mut self, bank: usize, unit: usize, value: u64) -> Result<(), SimulatorFault>
         ensures programs { Program ⟦<SimulatorFault as FlashFault>⟧ (flash_of (state_of self.old)) bank unit value (flash_of (state_of self.new)) result }
+        ensures untouched { Untouched ⟦<SimulatorFault as FlashFault>⟧ self.old result self.new }
         ensures state { state_of self.new ≡ after_program (state_of self.old) bank unit value }
     {
         if self.read(bank, unit)? != Unit::Blank {
@@ -112,6 +117,7 @@ impl Flash for Simulator {
     // kept: the gate of `read` once more, for the reason given there; here no unit is asked for, and the fault has none.
     fn erase(&mut self, bank: usize) -> Result<(), SimulatorFault>
         ensures erases { Erase ⟦<SimulatorFault as FlashFault>⟧ (flash_of (state_of self.old)) bank (flash_of (state_of self.new)) result }
+        ensures untouched { Untouched ⟦<SimulatorFault as FlashFault>⟧ self.old result self.new }
         ensures state { state_of self.new ≡ after_erase (state_of self.old) bank }
     {
         if !self.on {

@@ -49,6 +49,8 @@ impl Simulator {
 impl Planned for Simulator {
     ghost most = { 16 };
 
+    ghost added = { λ s e s'. state_of s' ≡ with_plan (state_of s) (state_of s').plan };
+
     fn add_entry(&mut self, entry: PlanEntry) -> Option<usize>
         ensures plan { Added 16 (state_of self.old).plan entry result (state_of self.new).plan }
         ensures state { state_of self.new ≡ with_plan (state_of self.old) (state_of self.new).plan }

@@ -66,7 +66,8 @@ impl<F: Flash> Store<F> {
     pub fn commit(&mut self, ticket: Ticket) -> Result<u32, Refusal>
         ensures does { Does (moment F.Flash self.old) (Commit ticket.number result) (moment F.Flash self.new) }
         ensures ledger { FollowsLedger (moment F.Flash self.old) (Commit ticket.number result) (moment F.Flash self.new) }
-        ensures flash { CommitsFlash F.Flash self.old.flash result self.new.flash }
+        ensures flash { CommitsFlash F.Flash (moment F.Flash self.old).memory ticket.number
+            self.old.flash self.new.flash }
     {
         let Ticket { number } = ticket;
         self.judge(Event::Commit { ticket: number })

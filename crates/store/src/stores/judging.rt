@@ -4,7 +4,7 @@ ghost use Rattle.layout.specs.Held.{pairs_of};
 ghost use Rattle.journal.specs.Log.{reading_of};
 ghost use Rattle.store.specs.Moments.{moment};
 ghost use Rattle.store.specs.Calls.{Judged, Recovers, Formats, Opens, PutsOpen, CommitsOpen};
-ghost use Rattle.store.specs.Flashes.{RecoversFlash, FormatsFlash, CommitsFlash, OnFlash};
+ghost use Rattle.store.specs.Flashes.{RecoversFlash, FormatsFlash, CommitsOpenFlash, OnFlash};
 
 use crate::changes::add;
 use crate::flashes::{is_roomy, power_up_and_format, power_up_and_read, write};
@@ -71,7 +71,8 @@ impl<F: Flash> Store<F> {
     fn commit_open(&mut self) -> Result<u32, Refusal>
         requires { (ticket : ℕ) × (self.old.phase ≡ Phase.Changing ticket) }
         ensures commits { CommitsOpen (moment F.Flash self.old) (reading_of self.old.standing) (pairs_of self.old.change) result (moment F.Flash self.new) }
-        ensures flash { CommitsFlash F.Flash self.old.flash result self.new.flash }
+        ensures flash { CommitsOpenFlash F.Flash (reading_of self.old.standing)
+            (pairs_of self.old.change) self.old.flash self.new.flash }
     {
         let Some(number) = self.standing.number.checked_add(1) else {
             self.phase = Phase::Ready;
@@ -89,7 +90,8 @@ impl<F: Flash> Store<F> {
     // kept: one match on phase and event, the project's form (docs/DECISIONS.md).
     pub(crate) fn judge(&mut self, event: Event) -> Result<u32, Refusal>
         ensures judged { Judged (moment F.Flash self.old) event result (moment F.Flash self.new) }
-        ensures flash { OnFlash F.Flash event self.old.flash result self.new.flash }
+        ensures flash { OnFlash F.Flash (moment F.Flash self.old).memory event
+            self.old.flash result self.new.flash }
     {
         match (self.phase, event) {
             (_, Event::Format) => self.format_units(),

@@ -12,6 +12,7 @@ impl<F: Planned> Store<F> {
     pub fn add_entry(&mut self, entry: PlanEntry) -> Option<usize>
         ensures plan { Added F.most (F.Flash.plan self.old.flash) entry result (F.Flash.plan self.new.flash) }
         ensures same { moment F.Flash self.new ≡ moment F.Flash self.old }
+        ensures itself { F.added self.old.flash entry self.new.flash }
     {
         self.flash.add_entry(entry)
     }

@@ -1,7 +1,7 @@
-use Rattle.std.proofs.Common.{◌≡◌, ℕ, ◌<◌, true, List, [], map, length, get_or, ℤ, pos, to_z, of_z, w32, w64, sym, refl, ap, ◌∙◌, subst, arith, SFits}
+use Rattle.std.proofs.Common.{◌≡◌, ℕ, ◌<◌, true, eqb, List, [], map, length, get_or, ℤ, pos, Ok, Err, to_z, of_z, w32, w64, sym, refl, ap, ◌∙◌, subst, arith, SFits}
 use Rattle.std.proofs.lemmas.List.{take_all, get_or-map, length-map}
 use Rattle.std.proofs.lemmas.List.Sums.{fold_more}
-use Rattle.std.proofs.lemmas.Bool.{cond-true}
+use Rattle.std.proofs.lemmas.Bool.{cond-true, eq-eqb}
 use Rattle.layout.proofs.WellFormed.{admitted_at, admits_fits}
 use Rattle.layout.specs.declared.meanings.Pair.{Pair}
 use Rattle.layout.specs.Held.{pairs_of}
@@ -11,7 +11,8 @@ use Rattle.layout.specs.Catalogue.{admits, pair_of}
 use Rattle.readings.specs.Gathered.{coefficients_of}
 use Rattle.compensation.specs.Division.{floor_div}
 use Rattle.compensation.specs.Formulas.{x1_of, x2_of, t_of, samples_of, s_of, x3_of, b3_of, y3_of, b4_of, b7_of, p_of, last_correction_of, pa_of, up_limit_of}
-use Rattle.figures.specs.Figures.{example_pairs}
+use Rattle.figures.specs.Figures.{example_pairs, example_line}
+use Rattle.store.specs.declared.refusals.Refusal.TheVariants.{OldStep}
 use Rattle.figures.proofs.example.example_pairs.Goals as goal
 
 -- a key with its coefficient, as a pair
@@ -63,6 +64,9 @@ returns c =
             compensation = record { temperature = refl; pressure = refl; hottest = refl; coldest = refl; too_hot = refl; too_cold = refl };
             complete = refl;
             gathered = refl;
+            step = λ n. refl;
+            line = λ n. cond-true (eqb n n) (Ok example_line) (Err OldStep) (eq-eqb n n refl);
+            line_by_law = λ n. cond-true (eqb n n) (Ok example_line) (Err OldStep) (eq-eqb n n refl);
             greatest_ac4 = refl;
             ac4_put = refl;
             ac4_refused = λ change. refl;

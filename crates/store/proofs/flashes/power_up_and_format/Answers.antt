@@ -15,5 +15,6 @@ returns g c =
       power_up = record { powered = c.power_up.ensures.powered; meaning = c.power_up.ensures.powers; plan = c.power_up.ensures.plan };
       run = subst (λ x. FormatWrites p x s') (sym (stopped_is t _ (λ e why p. search rules) r c.map_err.result c.map_err.ensures.cases))
           (format_writes t p s' r c.format_banks.ensures.writes c.format_banks.ensures.empty);
+      writes = c.format_banks.ensures.itself;
       plan = c.format_banks.ensures.plan;
     }

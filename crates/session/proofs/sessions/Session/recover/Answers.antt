@@ -1,18 +1,14 @@
-use Rattle.store.specs.Moments.{moment}
-use Rattle.session.proofs.Powering.{recovered_with, recovered_plan}
+use Rattle.session.specs.Held.{simulated_store}
+use Rattle.session.proofs.Powering.{recovered}
 use Rattle.session.proofs.sessions.Session.recover.Goals as goal
 
 pub returns : goal.returns
-returns c =
-    let f = c.let_go.new.self.store.flash in
-    let f' = c.recover.new.self.flash in (
-      moment _ c.let_go.new.self.store,
-      c.let_go.ensures.abandoned,
-      c.recover.result,
-      c.recover.ensures.does,
-      recovered_with f f' _ c.let_go.ensures.plan c.recover.ensures.flash,
-      c.number_answer.ensures,
-      recovered_plan f f' _ c.let_go.ensures.plan c.recover.ensures.flash,
-      c.let_go.ensures.held,
-      c.let_go.ensures.step,
-    )
+returns c = (
+  simulated_store c.let_go.new.self.store,
+  c.let_go.ensures.abandoned,
+  c.recover.result,
+  c.recover.ensures.does,
+  recovered c.let_go.new.self.store.flash c.recover.new.self.flash c.recover.ensures.flash,
+  c.number_answer.ensures,
+  (c.let_go.ensures.held, c.let_go.ensures.step),
+)

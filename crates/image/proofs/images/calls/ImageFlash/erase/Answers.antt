@@ -22,7 +22,7 @@ returns-then-bank-header c =
     let is = c.header-header.ensures in
     let cause = c.new-then-bank-header.ensures in
     let absent = erase_absent _ c.new-then-bank-header.result (image_flash bs) c.args.bank (on_read bs h is c.if-not-header.false) (omega (arith, banks_shown bs h is)) (ap cause_number cause) (ap cause_place cause) in
-    record { erases = absent; buffer = by_same (erase_refusal (image_flash bs) c.args.bank) _ _ bs (omega (arith, sym absent.why.number ∙ ap cause_number cause)) (omega (arith, sym absent.why.number ∙ ap cause_number cause)) }
+    record { erases = absent; untouched = λ _. refl; buffer = by_same (erase_refusal (image_flash bs) c.args.bank) _ _ bs (omega (arith, sym absent.why.number ∙ ap cause_number cause)) (omega (arith, sym absent.why.number ∙ ap cause_number cause)) }
 
 -- the units of a bank that is there: from i to within the buffer, and the bytes after zeros were written into f of them
 module _ (m : Image) (b : ℕ) (h : Header) (is : h ≡ header_of (image_bytes m)) (there : b < h.banks) (i : ℕ) (at : i ≡ unit_place (image_width (image_bytes m)) b 0) where
@@ -66,7 +66,7 @@ returns-then-header-eq0 c =
     let cause = c.new-then-header-eq0.ensures in
     let o = opened_of m in
     let cut = erase_cut (image_flash bs) c.args.bank (on_read bs h is c.if-not-header.false) (in_bank bs c.args.bank there) _ c.new-then-header-eq0.result _ (sym (charge_read bs h is) ∙ c.if-header-eq0.true) (ap cause_number cause) (ap cause_place cause) (half_bank bs o c.args.bank there) (half_allowed bs o c.args.bank there) (ap image_flash after ∙ erase_cut_state bs o c.args.bank there) in
-    record { erases = cut; buffer = after ∙ by_cut (erase_refusal (image_flash bs) c.args.bank) _ _ bs (sym cut.why.number ∙ ap cause_number cause) }
+    record { erases = cut; untouched = λ h. let n = ap cause_number cause in absurd (omega (arith, n, h)); buffer = after ∙ by_cut (erase_refusal (image_flash bs) c.args.bank) _ _ bs (sym cut.why.number ∙ ap cause_number cause) }
 
 pub invariant_of-self-2 : goal.invariant_of-self-2
 invariant_of-self-2 c =
@@ -94,4 +94,4 @@ returns c =
     let some : 0 < image_charge bs = omega (arith, charge_read bs h is, c.if-header-eq0.false) in
     let o = opened_of m in
     let done = erase_done (image_flash bs) c.args.bank (on_read bs h is c.if-not-header.false) (in_bank bs c.args.bank there) _ some (ap image_flash after ∙ erase_done_state bs o c.args.bank there) in
-    record { erases = done; buffer = after ∙ by_done (erase_refusal (image_flash bs) c.args.bank) _ _ bs done.accepted }
+    record { erases = done; untouched = tt; buffer = after ∙ by_done (erase_refusal (image_flash bs) c.args.bank) _ _ bs done.accepted }

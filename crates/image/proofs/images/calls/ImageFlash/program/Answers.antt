@@ -37,7 +37,7 @@ returns-then-header-eq0 c =
     let empty : image_charge bs ≡ 0 = sym (charge_read bs c.header.result c.header.ensures) ∙ c.if-header-eq0.true in
     let cause = c.new-then-header-eq0.ensures in
     let cut = program_cut s c.args.bank c.args.unit read.accepted free _ c.new-then-header-eq0.result _ c.args.value empty (ap cause_number cause) (ap cause_place cause) Unreadable (inr (inr refl)) (ap image_flash after ∙ program_cut_state bs (opened_of m) c.args.bank c.args.unit there.0 there.1) in
-    record { programs = cut; buffer = after ∙ by_cut (program_refusal s c.args.bank c.args.unit) _ _ bs (cut_refusal s c.args.bank c.args.unit read.accepted free empty) }
+    record { programs = cut; untouched = λ h. let n = ap cause_number cause in absurd (omega (arith, n, h)); buffer = after ∙ by_cut (program_refusal s c.args.bank c.args.unit) _ _ bs (cut_refusal s c.args.bank c.args.unit read.accepted free empty) }
 
 pub invariant_of-self-2 : goal.invariant_of-self-2
 invariant_of-self-2 c =
@@ -67,4 +67,4 @@ returns c =
     let some : 0 < image_charge bs = omega (arith, charge_read bs c.header.result c.header.ensures, c.if-header-eq0.false) in
     let fits : v < 2 ^ 64 = omega arith in
     let done = program_done s c.args.bank c.args.unit read.accepted free _ v some (ap image_flash after ∙ program_done_state bs (opened_of m) c.args.bank c.args.unit there.0 there.1 v fits) in
-    record { programs = done; buffer = after ∙ by_done (program_refusal s c.args.bank c.args.unit) _ _ bs done.accepted }
+    record { programs = done; untouched = tt; buffer = after ∙ by_done (program_refusal s c.args.bank c.args.unit) _ _ bs done.accepted }

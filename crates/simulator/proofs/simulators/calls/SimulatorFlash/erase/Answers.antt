@@ -1,4 +1,4 @@
-use Rattle.std.proofs.Common.{◌≡◌, ◌-◌, ◌*◌, ◌<◌, false, take, drop, replicate, sym, ap, ◌∙◌, arith}
+use Rattle.std.proofs.Common.{◌≡◌, ◌-◌, ◌*◌, ◌<◌, false, take, drop, replicate, refl, sym, ap, ◌∙◌, arith}
 use Rattle.std.proofs.lemmas.List.{length-replicate}
 use Rattle.flash.specs.declared.units.Unit.TheVariants.{Blank}
 use Rattle.flash.specs.Causes.{cause_number, cause_place}
@@ -28,7 +28,7 @@ returns-then-bank-self c =
     let cause = c.new-then-bank-self.ensures in
     let none = erase_absent _ c.new-then-bank-self.result (simulated s) c.args.bank c.if-not-self.false (omega (arith, size, c.if-bank-self.true)) (ap cause_number cause) (ap cause_place cause) in
     let code = sym none.why.number ∙ ap cause_number cause in
-    record { erases = none; state = erase_state_same (state_of s) c.args.bank (omega (arith, code)) (omega (arith, code)) }
+    record { erases = none; untouched = λ _. refl; state = erase_state_same (state_of s) c.args.bank (omega (arith, code)) (omega (arith, code)) }
 
 pub returns-then-self-eq0 : goal.returns-then-self-eq0
 returns-then-self-eq0 c =
@@ -44,7 +44,7 @@ returns-then-self-eq0 c =
     let cut = erase_cut (simulated s) b c.if-not-self.false there _ c.new-then-self-eq0.result _ c.if-self-eq0.true (ap cause_number cause) (ap cause_place cause)
     left (table_residue s.banks s.width (items s) s.on s.entry.charge (full_of s) b c.if-bank-self.false s.entry.pattern)
     (ap flash_of after ∙ table_bank s.banks s.width (items s) false s.entry.charge (full_of s) b c.if-bank-self.false left size) in
-    record { erases = cut; state = after ∙ erase_state_cut (state_of s) b (sym cut.why.number ∙ ap cause_number cause) }
+    record { erases = cut; untouched = λ h. let n = ap cause_number cause in absurd (omega (arith, n, h)); state = after ∙ erase_state_cut (state_of s) b (sym cut.why.number ∙ ap cause_number cause) }
 
 pub returns : goal.returns
 returns c =
@@ -58,4 +58,4 @@ returns c =
     let paid_for : 0 < s.entry.charge = omega (arith, c.if-self-eq0.false) in
     let done = erase_done (simulated s) b c.if-not-self.false there _ paid_for
     (ap flash_of after ∙ table_bank s.banks s.width (items s) s.on (s.entry.charge - 1) (full_of s) b c.if-bank-self.false left (length-replicate s.width Blank)) in
-    record { erases = done; state = after ∙ erase_state_done (state_of s) b done.accepted }
+    record { erases = done; untouched = tt; state = after ∙ erase_state_done (state_of s) b done.accepted }

@@ -1,0 +1,4 @@
+pub mod Cases
+pub mod Asked
+pub mod Logs
+pub mod Rows
