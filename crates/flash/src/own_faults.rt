@@ -4,6 +4,7 @@ ghost use Rattle.flash.specs.Causes.{cause_number, cause_place, cause_of};
 
 use crate::causes::{Cause, Why};
 use crate::faults::{FlashFault, Place};
+use std::fmt;
 use std::marker::PhantomData;
 
 // A marker type for each such kind, which names its layer.
@@ -13,10 +14,15 @@ pub trait Layer {
 
     fn name() -> &'static str
         ensures { result.now ≡ name };
+
+    // What `{:?}` calls the fault of the kind.
+    fn fault() -> &'static str {
+        "OwnFault"
+    }
 }
 
 // Each kind's fault is a type of its own by `L`.
-#[derive(Clone, Copy, PartialEq, Eq, Debug)]
+#[derive(Clone, Copy, PartialEq, Eq)]
 pub struct OwnFault<L> {
     pub cause: Cause,
     layer: PhantomData<L>,
@@ -50,5 +56,14 @@ impl<L: Layer> FlashFault for OwnFault<L> {
 
     fn place(&self) -> Place {
         self.cause.place()
+    }
+}
+
+// By hand: a derive would print the marker in place of the kind.
+impl<L: Layer> fmt::Debug for OwnFault<L> {
+    fn fmt<W: fmt::Write>(&self, f: &mut fmt::Formatter<W>) -> fmt::Result {
+        f.debug_struct(L::fault())
+            .field("cause", &self.cause)
+            .finish()
     }
 }

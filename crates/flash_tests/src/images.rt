@@ -52,6 +52,18 @@ fn reads_each_state(rt: HostRuntime) -> Result<(), Fail> {
 }
 
 #[test]
+fn fault_as_text(rt: HostRuntime) -> Result<(), Fail> {
+    let image = open(rt.alloc(), &three_units(0, 1))?;
+    let fault = image.read(1, 2).err().ok_or("read")?;
+    let shown = format!(in rt.alloc(); "{fault:?}")?;
+    assert_eq!(rt;
+        shown.as_str(),
+        "ImageFault { cause: Cause { why: Missing, bank: 1, unit: Some(2) } }"
+    );
+    Ok(())
+}
+
+#[test]
 fn power_byte_two_reads_as_off(rt: HostRuntime) -> Result<(), Fail> {
     let mut image = open(rt.alloc(), &three_units(4, 2))?;
     assert_eq!(rt; number(image.read(0, 0)), 21);

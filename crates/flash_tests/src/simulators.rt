@@ -18,6 +18,17 @@ fn makes_blank_and_off(rt: HostRuntime) -> Result<(), Fail> {
     Ok(())
 }
 
+#[test]
+fn fault_as_text(rt: HostRuntime) -> Result<(), Fail> {
+    let fault = small(rt.alloc())?.read(0, 1).err().ok_or("read")?;
+    let shown = format!(in rt.alloc(); "{fault:?}")?;
+    assert_eq!(rt;
+        shown.as_str(),
+        "SimulatorFault { cause: Cause { why: Off, bank: 0, unit: Some(1) } }"
+    );
+    Ok(())
+}
+
 // What the check before making refuses with, 0 where it accepts.
 // kept: a number, as `number` is; not one function with that of the image, since the two faults share no trait.
 fn refusal(banks: usize, width: usize, size: usize) -> u8 {

@@ -1,5 +1,5 @@
 // The header of an image: where its fields stand, and what they say.
-ghost use Rattle.std.specs.Prelude.{◌≡◌, true, false, MatchOption, IfSome};
+ghost use Rattle.std.specs.Prelude.{◌≡◌, ◌≤◌, true, false, length, MatchOption, IfSome};
 ghost use Rattle.image.specs.ImageHeader.{header_of};
 ghost use Rattle.image.specs.ImageStates.{image_marked};
 
@@ -54,15 +54,20 @@ impl Header {
         ensures marked { MatchOption result (image_marked bytes.now ≡ false) (λ _. image_marked bytes.now ≡ true) }
         ensures fields { IfSome result (λ h. h ≡ header_of bytes.now) }
     {
-        if !is_marked(bytes) {
-            return None;
-        }
-        Some(Header {
+        is_marked(bytes).then(|| Header::fields(bytes))
+    }
+
+    // What the bytes after the mark and the version say; these are not looked at.
+    pub(crate) fn fields(bytes: &[u8]) -> Header
+        requires { 17 ≤ length bytes.now }
+        ensures { result ≡ header_of bytes.now }
+    {
+        Header {
             banks: usize::from(bytes[BANKS_AT]),
             width: usize::from(u16::from_be_bytes(bytes[WIDTH_AT].try_into().unwrap())),
             charge: u32::from_be_bytes(bytes[CHARGE_AT].try_into().unwrap()),
             supply: u32::from_be_bytes(bytes[SUPPLY_AT].try_into().unwrap()),
             is_on: bytes[POWER_AT] == ON,
-        })
+        }
     }
 }

@@ -12,6 +12,10 @@ impl Layer for ImageLayer {
     fn name() -> &'static str {
         "image"
     }
+
+    fn fault() -> &'static str {
+        "ImageFault"
+    }
 }
 
 pub type ImageFault = OwnFault<ImageLayer>;

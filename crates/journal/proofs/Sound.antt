@@ -1,5 +1,5 @@
 -- The pairs that are read have rising keys, and the catalogue admits each.
-use Rattle.std.proofs.Common.{◌≡◌, ℕ, zero, suc, ◌+◌, Bool, true, false, cond, eqb, leb, List, [], ◌∷◌, length, take, drop, Some, None, sym, refl, subst}
+use Rattle.std.proofs.Common.{◌≡◌, ℕ, zero, suc, ◌+◌, ◌^◌, ◌<◌, Bool, true, false, cond, eqb, leb, List, [], ◌∷◌, length, take, drop, Some, None, sym, refl, subst}
 use Rattle.std.proofs.lemmas.Bool.{and_parts, and_from, cond_both}
 use Rattle.flash.specs.declared.units.Unit.{Unit as Cell}
 use Rattle.flash.specs.declared.units.Unit.TheVariants.{Blank, Programmed, Unreadable}
@@ -45,11 +45,12 @@ pub record Good (ps : List Pair) : Type 0 where
 
 record GoodRun (s : Progress) : Type 0 where
   stand : Good s.pairs
+  bits : s.number < 2 ^ 32
   run : all_admitted s.run ≡ true
 
 good_step : (s : Progress) (m : Meaning) → GoodRun s → SoundAt m → GoodRun (step s m)
-good_step s Noise g h = record { stand = g.stand; run = refl }
-good_step s (Record p) g h = record { stand = g.stand; run = and_from _ _ h g.run }
+good_step s Noise g h = record { stand = g.stand; bits = g.bits; run = refl }
+good_step s (Record p) g h = record { stand = g.stand; bits = g.bits; run = and_from _ _ h g.run }
 good_step s (Commit c n) g h =
     cond_both (counts c n s) (taken c n s) (passed s) GoodRun
     (λ e.
@@ -61,10 +62,11 @@ good_step s (Commit c n) g h =
         rises = rising_merged 0 (newest c s.run) s.pairs q'.1 g.stand.rises;
         admits = admitted_merged (newest c s.run) s.pairs a g.stand.admits;
       };
+      bits = h.1;
       run = refl;
     })
-    (λ _. record { stand = g.stand; run = refl })
-good_step s (Header c n) g h = record { stand = g.stand; run = refl }
+    (λ _. record { stand = g.stand; bits = g.bits; run = refl })
+good_step s (Header c n) g h = record { stand = g.stand; bits = g.bits; run = refl }
 
 good_steps : (s : Progress) (ms : List Meaning) → GoodRun s → Sound ms → GoodRun (steps s ms)
 good_steps s [] g h = g
@@ -72,6 +74,7 @@ good_steps s (m ∷ ms) g h = good_steps (step s m) ms (good_step s m g h.0) h.1
 
 record GoodOpening (o : Opening) : Type 0 where
   stand : Good o.pairs
+  bits : o.number < 2 ^ 32
   rest : Sound o.rest
 
 good_cond : (b : Bool) (o p : Opening) → (b ≡ true → GoodOpening p) → cond b (Some p) None ≡ Some o → GoodOpening o
@@ -90,16 +93,20 @@ good_opening (Header c n ∷ ms) o s e =
         rises = (and_parts (leb c (length (leading ms))) _ h).1;
         admits = admitted_take c (leading ms) (sound_leading ms s.1);
       };
+      bits = s.0.1;
       rest = sound_drop c ms s.1;
     }) e
 
 closing_run : (us : List Cell) (o : Opening) → opening (meanings us) ≡ Some o → GoodRun (closing o)
 closing_run us o e =
     let g = good_opening (meanings us) o (sound us) e in
-    good_steps (record { number = o.number; pairs = o.pairs; run = [] }) o.rest (record { stand = g.stand; run = refl }) g.rest
+    good_steps (record { number = o.number; pairs = o.pairs; run = [] }) o.rest (record { stand = g.stand; bits = g.bits; run = refl }) g.rest
 
 pub good_closing : (us : List Cell) (o : Opening) → opening (meanings us) ≡ Some o → Good (closing o).pairs
 good_closing us o e = (closing_run us o e).stand
+
+pub closing_bits : (us : List Cell) (o : Opening) → opening (meanings us) ≡ Some o → (closing o).number < 2 ^ 32
+closing_bits us o e = (closing_run us o e).bits
 
 pub record_admitted : (u : Cell) (p : Pair) → Record p ≡ meaning_of u → admits p ≡ true
 record_admitted u p e = subst SoundAt (sym e) (sound_at u)

@@ -10,7 +10,7 @@ use Rattle.journal.specs.Reading.{Banks, bank, Reading, reads}
 use Rattle.journal.specs.Writes.{Write, program}
 use Rattle.journal.specs.Commit.{records, appending, moving, other, fits, commit_writes, writes_needed, Change, Holds}
 use Rattle.journal.proofs.Charges.{AllReady, Leaves, Roomy, WholeOrAbsent}
-use Rattle.journal.proofs.Sound.{Good, good_closing}
+use Rattle.journal.proofs.Sound.{Good, good_closing, closing_bits}
 use Rattle.journal.proofs.Programs.{length_programs}
 use Rattle.journal.proofs.Active.{reads_found}
 use Rattle.journal.proofs.Append.{append_ready, append_whole, append_cut}
@@ -60,6 +60,11 @@ module _ (width : ℕ) (bs : Banks) (r : Reading) (d : Roomy width bs) (read : r
 
   read_formed : well_formed r.pairs ≡ true
   read_formed = and_from _ _ read_good.rises read_good.admits
+
+  pub read_bits : r.number < 2 ^ 32
+  read_bits =
+      let f = reads_found bs r read in
+      omega (arith, closing_bits (bank r.active bs) f.o f.active.opens, ap (λ x. x.number) f.is)
 
   module _ (change : List Pair) (c : Change change) (small : r.number + 1 < 2 ^ 32) where
     outcome : (b : Bool) → fits width r change ≡ b →

@@ -48,6 +48,12 @@ paired_set (suc n) (suc i) (a ∷ ks) [] k v = refl
 paired_set (suc n) zero (a ∷ ks) (b ∷ vs) k v = refl
 paired_set (suc n) (suc i) (a ∷ ks) (b ∷ vs) k v = ap (λ ps. pair_of a b ∷ ps) (paired_set n i ks vs k v)
 
+-- a place written behind the first n, which are then one more
+pub pushed : {X : Type 0} (xs : List X) (n : ℕ) (x : X) → n < length xs → take (suc n) (set xs n x) ≡ insert (take n xs) n x
+pushed [] n x h = absurd (omega arith)
+pushed (y ∷ ys) zero x h = refl
+pushed (y ∷ ys) (suc n) x h = ap (λ zs. y ∷ zs) (pushed ys n x (omega arith))
+
 module _ (ks : List ℕ) (vs : List ℤ) (n : ℕ) (hk : n ≤ length ks) (hv : n ≤ length vs) where
   same_take : length (take n ks) ≡ length (take n vs)
   same_take = length-take-le n ks hk ∙ sym (length-take-le n vs hv)

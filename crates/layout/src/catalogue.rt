@@ -127,14 +127,6 @@ impl Limits {
     }
 }
 
-impl Row {
-    fn admits(&self, pair: Pair) -> bool
-        ensures { result ≡ (self.now.key == pair.key && in_limits (limits_of self.now.limits) pair.value) }
-    {
-        self.key == pair.key && self.limits.admit(pair.value)
-    }
-}
-
 fn is_hole(value: i32) -> bool
     ensures { result ≡ is_hole value }
 {
@@ -155,11 +147,15 @@ pub fn is_key(key: u8) -> bool
     (1..=KEYS).contains(&key)
 }
 
-// Whether the catalogue has the pair's key and admits its value.
+// Whether the catalogue has the pair's key and admits its value. The rows stand in the order of the
+// keys, which begin at 1: 0, which is no key, has a place past all of them.
 pub fn admits(pair: Pair) -> bool
     ensures { result ≡ admitted pair }
 {
-    rows().iter().any(|row| row.admits(pair))
+    let at = usize::from(pair.key).wrapping_sub(1);
+    rows()
+        .get(at)
+        .is_some_and(|row| row.limits.admit(pair.value))
 }
 
 // The key of a name; 0 where the catalogue has no such name.

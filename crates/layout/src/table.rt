@@ -66,6 +66,20 @@ impl Table {
             .map(|(_, value)| *value)
     }
 
+    // Adds a pair behind the others.
+    pub(crate) fn push(&mut self, pair: Pair)
+        requires room { self.old.len < 13 }
+        ensures pairs { pairs_in self.new ≡ insert (pairs_in self.old) self.old.len pair }
+        ensures len { self.new.len ≡ self.old.len + 1 }
+    {
+        self.keys[self.len] = pair.key;
+        self.values[self.len] = pair.value;
+        self.len += 1;
+    }
+
+    // Out of line: a pair seldom comes between others, and the two copies take the registers of each
+    // loop that lays pairs.
+    #[inline(never)]
     pub(crate) fn insert(&mut self, at: usize, pair: Pair)
         requires within { at ≤ self.old.len }
         requires room { self.old.len < 13 }
@@ -118,7 +132,9 @@ impl Table {
         ensures few { self.new.len ≤ 13 }
     {
         let at = self.place(pair.key);
-        if at < self.len && self.keys[at] == pair.key {
+        if at == self.len {
+            self.push(pair);
+        } else if self.keys[at] == pair.key {
             self.replace(at, pair);
         } else {
             self.insert(at, pair);

@@ -10,6 +10,7 @@ mod tests {
     use layout::meanings::{Meaning, Pair};
     use layout::merge::merged;
     use layout::pairs::Pairs;
+    use std::test::Fail;
 
     fn pair(key: u8, value: i32) -> Pair {
         Pair { key, value }
@@ -82,5 +83,34 @@ mod tests {
             }
         );
         assert_eq!(rt; meaning(Unit::Unreadable), Meaning::Noise);
+    }
+
+    #[test]
+    fn meaning_as_text(rt: HostRuntime) -> Result<(), Fail> {
+        for (meant, text) in [
+            (Meaning::Noise, "Noise"),
+            (
+                Meaning::Record(pair(9, -2)),
+                "Record(Pair { key: 9, value: -2 })",
+            ),
+            (
+                Meaning::Commit {
+                    count: 1,
+                    number: 2,
+                },
+                "Commit(1, 2)",
+            ),
+            (
+                Meaning::Header {
+                    count: 48,
+                    number: 7,
+                },
+                "Header(48, 7)",
+            ),
+        ] {
+            let shown = format!(in rt.alloc(); "{meant:?}")?;
+            assert_eq!(rt; shown.as_str(), text);
+        }
+        Ok(())
     }
 }

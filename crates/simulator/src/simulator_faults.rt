@@ -12,6 +12,10 @@ impl Layer for SimulatorLayer {
     fn name() -> &'static str {
         "simulator"
     }
+
+    fn fault() -> &'static str {
+        "SimulatorFault"
+    }
 }
 
 pub type SimulatorFault = OwnFault<SimulatorLayer>;

@@ -10,11 +10,11 @@ use crate::images::Image;
 use crate::units::UNIT_SIZE;
 
 impl Image {
-    // The header that the check before opening found.
+    // The header. The check before opening saw its mark and its version, which no call changes.
     pub(crate) fn header(&self) -> Header
         ensures { result ≡ header_of (image_bytes self.now) }
     {
-        Header::read(&self.bytes).unwrap()
+        Header::fields(&self.bytes)
     }
 
     // Where the bytes of a unit begin.
