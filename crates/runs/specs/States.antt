@@ -2,7 +2,6 @@
 -- makes of the two.
 use Rattle.std.specs.Prelude.{◌≡◌, ℕ, Some, None, Option}
 use Rattle.flash.specs.Seen.{seen}
-use Rattle.flash.specs.declared.faults.FlashFault.{Ghosts as FaultGhosts}
 use Rattle.flash.specs.declared.interface.Flash.{Ghosts}
 use Rattle.store.specs.declared.entries.Entry.{Entry}
 use Rattle.store.specs.declared.entries.Entry.TheVariants.{Recover, Begin, Put, Commit, Abandon, Get, Temperature, Pressure}
@@ -18,8 +17,7 @@ pub record StoreState (X : Type 0) : Type 0 where
   pub memory : Memory
   pub next : ℕ
 
-abbrev pub store_state : {X Y : Type 0} → (g : Ghosts X Y) → {t : FaultGhosts Y} →
-    Store X Y g t → StoreState X
+abbrev pub store_state : {X Y : Type 0} → Ghosts X Y → Store X → StoreState X
 store_state g s = record {
   flash = s.flash;
   memory = memory_of s.phase s.standing s.change;

@@ -1,11 +1,9 @@
 -- A session as its record shows it.
 use Rattle.std.specs.Prelude.{ℕ, List, Option}
 use Rattle.std.specs.Option.{option_map}
-use Rattle.flash.specs.declared.faults.FlashFault.{Ghosts as FaultGhosts}
-use Rattle.flash.specs.declared.interface.Flash.{Ghosts}
 use Rattle.simulator.specs.SimulatorStates.{state_of}
 use Rattle.simulator.specs.declared.simulators.Simulator.{Simulator}
-use Rattle.store.specs.Moments.{moment}
+use Rattle.store.specs.Memories.{memory_of}
 use Rattle.store.specs.declared.steps.Step.{Step}
 use Rattle.store.specs.declared.stores.Store.{Store}
 use Rattle.store.specs.declared.tickets.Ticket.{Ticket}
@@ -15,12 +13,11 @@ use Rattle.session.specs.Sessions.{Session}
 use Rattle.session.specs.Exchanges.{Exchange}
 
 -- a store on a simulator
-abbrev pub simulated_store : {Y : Type 0} → {g : Ghosts Simulator Y} → {t : FaultGhosts Y} →
-    Store Simulator Y g t → SimulatedStore
-simulated_store {Y} {g} s = record {
+abbrev pub simulated_store : Store Simulator → SimulatedStore
+simulated_store s = record {
   simulator = state_of s.flash;
-  memory = (moment g s).memory;
-  next = (moment g s).next;
+  memory = memory_of s.phase s.standing s.change;
+  next = s.next;
 }
 
 abbrev pub session : Held → Session

@@ -1,7 +1,5 @@
 -- What a store knows, beside what its units say.
 use Rattle.std.specs.Prelude.{◌≡◌, ℕ, List, Some}
-use Rattle.std.specs.Coded.{×_prop, Unit-prop}
-use Rattle.std.proofs.Props.{props}
 use Rattle.flash.specs.FlashState.{FlashState}
 use Rattle.layout.specs.declared.meanings.Pair.{Pair}
 use Rattle.layout.specs.declared.pairs.Pairs.{Pairs}
@@ -36,15 +34,3 @@ abbrev pub TiedIn : Memory → FlashState → Type 0
 TiedIn cold s = Unit {0}
 TiedIn (ready r) s = Known s r
 TiedIn (changing r ticket change) s = Known s r × Change change
-
--- there is at most one proof of it, as an invariant has to have
-known_prop : (s : FlashState) (r : Reading) → IsProp (Known s r)
-known_prop s r = Prim.hlevel props
-
-change_prop : (change : List Pair) → IsProp (Change change)
-change_prop change = Prim.hlevel props
-
-pub tied_prop : (m : Memory) (s : FlashState) → IsProp (TiedIn m s)
-tied_prop cold s = Unit-prop
-tied_prop (ready r) s = known_prop s r
-tied_prop (changing r ticket change) s = ×_prop (known_prop s r) (change_prop change)

@@ -1,9 +1,7 @@
 // The store of coefficients over any flash.
 ghost use Rattle.std.specs.Prelude.{◌≡◌};
-ghost use Rattle.flash.specs.Seen.{seen};
 ghost use Rattle.journal.specs.Log.{reading_of};
 ghost use Rattle.journal.specs.Commit.{formatted};
-ghost use Rattle.store.specs.Memories.{memory_of, TiedIn, tied_prop};
 
 use crate::phases::Phase;
 use flash::interface::Flash;
@@ -18,15 +16,15 @@ mod planning;
 // What stands by the units is held in `standing` unless the store is cold, an open change in `change` while it is changing.
 // kept: fields beside the phase. Held in it, they would be matched for a second time, with an arm that cannot be, by the calls that only look at what
 // stands: these are judged by the one match on phase and event, as the project wants, and that answers a number.
+// What the store knows is what its units say: so it is of a new one, and each call keeps it (clauses `tied`).
+// kept: that as a clause of each call, and no ghost field, which would cite the bound `Flash` and so ask it of every type that holds a store.
 #[derive(Drop)]
-pub struct Store<F: Flash> {
+pub struct Store<F> {
     flash: F,
     phase: Phase,
     standing: Standing,
     change: Pairs,
     next: u32,
-    // What the store knows is what its units say.
-    pub ghost tied: { TiedIn (memory_of phase standing change) (seen F.Flash flash) } by { tied_prop (memory_of phase standing change) (seen F.Flash flash) },
 }
 
 // What an empty store has in its units: a header in bank 0.

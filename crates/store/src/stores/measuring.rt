@@ -1,7 +1,7 @@
 // The calls of the store that give readings. They need its phase, its standing pairs and its number, and never touch the flash.
 ghost use Rattle.std.specs.Prelude.{◌≡◌};
 ghost use Rattle.store.specs.declared.entries.Entry.TheVariants.{Temperature, Pressure};
-ghost use Rattle.store.specs.Moments.{moment};
+ghost use Rattle.store.specs.Moments.{moment, Tied};
 ghost use Rattle.store.specs.Calls.{Does, step_numbers};
 ghost use Rattle.store.specs.Law.{FollowsLedger};
 
@@ -16,6 +16,7 @@ impl<F: Flash> Store<F> {
     // The temperature from the raw value UT, as a step for one pressure.
     pub fn temperature(&mut self, ut: i32) -> Result<Step, Refusal>
         ensures does { Does (moment F.Flash self.old) (Temperature ut (step_numbers result)) (moment F.Flash self.new) }
+        ensures tied { Tied (moment F.Flash self.old) → Tied (moment F.Flash self.new) }
         ensures ledger { FollowsLedger (moment F.Flash self.old) (Temperature ut (step_numbers result)) (moment F.Flash self.new) }
         ensures flash { self.new.flash ≡ self.old.flash }
     {
@@ -27,6 +28,7 @@ impl<F: Flash> Store<F> {
     // The line of a step and the raw value UP. The step is used up, refused or not.
     pub fn pressure(&mut self, step: Step, up: i32) -> Result<Line, Refusal>
         ensures does { Does (moment F.Flash self.old) (Pressure step.numbers up result) (moment F.Flash self.new) }
+        ensures tied { Tied (moment F.Flash self.old) → Tied (moment F.Flash self.new) }
         ensures ledger { FollowsLedger (moment F.Flash self.old) (Pressure step.numbers up result) (moment F.Flash self.new) }
         ensures flash { self.new.flash ≡ self.old.flash }
     {

@@ -6,6 +6,7 @@ use Rattle.store.specs.Calls.{ticket_number}
 use Rattle.store.specs.Moments.{moment}
 use Rattle.store.specs.Calls.{Does}
 use Rattle.store.proofs.Law.{follows_ledger}
+use Rattle.store.proofs.Tying.{keeps_tied}
 use Rattle.store.proofs.stores.Store.begin.Goals as goal
 
 pub returns-in_err-number : goal.returns-in_err-number
@@ -17,7 +18,7 @@ returns-in_err-number g c =
     let same : ticket_number c.from_residual.result ≡ Err why = ap ticket_number is in
     let e : Entry = Begin (ticket_number c.from_residual.result) in
     let d : Does m e m' = subst (λ (r : Result ℕ Refusal). Does m (Begin r) m') (sym same) c.in_err-number.ensures.judged in
-    record { does = d; ledger = follows_ledger m e m' d; flash = c.judge.ensures.flash }
+    record { does = d; tied = keeps_tied m e m' d; ledger = follows_ledger m e m' d; flash = c.judge.ensures.flash }
 
 pub returns : goal.returns
 returns g c =
@@ -25,4 +26,4 @@ returns g c =
     let m' = moment g.F.Flash c.judge.new.self in
     let e : Entry = Begin (Ok c.in_ok-number.number) in
     let d : Does m e m' = c.in_ok-number.ensures.judged in
-    record { does = d; ledger = follows_ledger m e m' d; flash = c.judge.ensures.flash }
+    record { does = d; tied = keeps_tied m e m' d; ledger = follows_ledger m e m' d; flash = c.judge.ensures.flash }

@@ -9,6 +9,7 @@ use Rattle.store.specs.Calls.{get_answer}
 use Rattle.store.specs.Moments.{moment}
 use Rattle.store.specs.Calls.{Does}
 use Rattle.store.proofs.Law.{follows_ledger}
+use Rattle.store.proofs.Tying.{keeps_tied}
 use Rattle.store.proofs.Looking.{looks_cold, looks_warm}
 use Rattle.store.proofs.stores.Store.get.Goals as goal
 
@@ -21,7 +22,7 @@ returns-in_err-judge g c =
     let is : c.from_residual.result ≡ Err why = search rules in
     let e : Entry = Get c.args.key c.from_residual.result in
     let d : Does m e m' = looks_cold m m' f why (c.from_residual.result) is c.in_err-judge.ensures.judged in
-    record { does = d; ledger = follows_ledger m e m' d; flash = c.judge.ensures.flash }
+    record { does = d; tied = keeps_tied m e m' d; ledger = follows_ledger m e m' d; flash = c.judge.ensures.flash }
 
 pub returns-then-is_key : goal.returns-then-is_key
 returns-then-is_key g c =
@@ -33,7 +34,7 @@ returns-then-is_key g c =
     let q : r ≡ get_answer (pairs_of st.standing.pairs) c.args.key = search rules in
     let e : Entry = Get c.args.key r in
     let d : Does m e m' = looks_warm m m' st.phase st.standing st.change refl f _ c.in_ok-judge.ensures.judged r q in
-    record { does = d; ledger = follows_ledger m e m' d; flash = c.judge.ensures.flash }
+    record { does = d; tied = keeps_tied m e m' d; ledger = follows_ledger m e m' d; flash = c.judge.ensures.flash }
 
 pub returns-else-is_key : goal.returns-else-is_key
 returns-else-is_key g c =
@@ -45,4 +46,4 @@ returns-else-is_key g c =
     let q : r ≡ get_answer (pairs_of st.standing.pairs) c.args.key = search rules in
     let e : Entry = Get c.args.key r in
     let d : Does m e m' = looks_warm m m' st.phase st.standing st.change refl f _ c.in_ok-judge.ensures.judged r q in
-    record { does = d; ledger = follows_ledger m e m' d; flash = c.judge.ensures.flash }
+    record { does = d; tied = keeps_tied m e m' d; ledger = follows_ledger m e m' d; flash = c.judge.ensures.flash }

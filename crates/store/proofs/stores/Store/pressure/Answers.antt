@@ -10,6 +10,7 @@ use Rattle.store.specs.Readings.{pressure_answer}
 use Rattle.store.specs.Moments.{moment}
 use Rattle.store.specs.Calls.{Does}
 use Rattle.store.proofs.Law.{follows_ledger}
+use Rattle.store.proofs.Tying.{keeps_tied}
 use Rattle.store.proofs.Looking.{looks_cold, looks_warm}
 use Rattle.store.proofs.stores.Store.pressure.Goals as goal
 
@@ -24,7 +25,7 @@ returns-in_err-judge g c =
     let is : c.from_residual.result ≡ Err why = search rules in
     let e : Entry = Pressure st up c.from_residual.result in
     let d : Does m e m' = looks_cold m m' f why (c.from_residual.result) is c.in_err-judge.ensures.judged in
-    record { does = d; ledger = follows_ledger m e m' d; flash = c.judge.ensures.flash }
+    record { does = d; tied = keeps_tied m e m' d; ledger = follows_ledger m e m' d; flash = c.judge.ensures.flash }
 
 pub returns : goal.returns
 returns g c =
@@ -40,4 +41,4 @@ returns g c =
     let q : c.line.result ≡ pressure_answer (pairs_of s.standing.pairs) s.standing.number st up = simp to_z-of_z at c.line.ensures in
     let e : Entry = Pressure st up c.line.result in
     let d : Does m e m' = looks_warm m m' s.phase s.standing s.change refl f _ c.in_ok-judge.ensures.judged c.line.result q in
-    record { does = d; ledger = follows_ledger m e m' d; flash = c.judge.ensures.flash }
+    record { does = d; tied = keeps_tied m e m' d; ledger = follows_ledger m e m' d; flash = c.judge.ensures.flash }

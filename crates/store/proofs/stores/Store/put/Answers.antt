@@ -5,6 +5,7 @@ use Rattle.store.specs.declared.entries.Entry.TheVariants.{Put}
 use Rattle.store.specs.Moments.{moment}
 use Rattle.store.specs.Calls.{Does}
 use Rattle.store.proofs.Law.{follows_ledger}
+use Rattle.store.proofs.Tying.{keeps_tied}
 use Rattle.store.proofs.stores.Store.put.Goals as goal
 
 pub returns : goal.returns
@@ -14,4 +15,4 @@ returns g c =
     let e : Entry = Put c.args.ticket.now.number c.args.key c.args.value c.judge.result in
     let v : SFits w32 c.args.value = search rules in
     let d : Does m e m' = simp to_z-of_z at c.judge.ensures.judged in
-    record { does = d; ledger = follows_ledger m e m' d; flash = c.judge.ensures.flash }
+    record { does = d; tied = keeps_tied m e m' d; ledger = follows_ledger m e m' d; flash = c.judge.ensures.flash }

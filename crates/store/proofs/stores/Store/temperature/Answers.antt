@@ -11,6 +11,7 @@ use Rattle.store.specs.Readings.{temperature_answer}
 use Rattle.store.specs.Moments.{moment}
 use Rattle.store.specs.Calls.{Does}
 use Rattle.store.proofs.Law.{follows_ledger}
+use Rattle.store.proofs.Tying.{keeps_tied}
 use Rattle.store.proofs.Looking.{looks_cold, looks_warm}
 use Rattle.store.proofs.stores.Store.temperature.Goals as goal
 
@@ -24,7 +25,7 @@ returns-in_err-judge g c =
     let same : step_numbers c.from_residual.result ≡ Err why = ap step_numbers is in
     let e : Entry = Temperature c.args.ut (step_numbers c.from_residual.result) in
     let d : Does m e m' = looks_cold m m' f why (step_numbers c.from_residual.result) same c.in_err-judge.ensures.judged in
-    record { does = d; ledger = follows_ledger m e m' d; flash = c.judge.ensures.flash }
+    record { does = d; tied = keeps_tied m e m' d; ledger = follows_ledger m e m' d; flash = c.judge.ensures.flash }
 
 pub returns-in_err-numbers : goal.returns-in_err-numbers
 returns-in_err-numbers g c =
@@ -43,7 +44,7 @@ returns-in_err-numbers g c =
     let d : Does m e m' =
     subst (λ (x : Result StepNumbers Refusal). Does m (Temperature ut x) m') (sym same)
     (looks_warm m m' s.phase s.standing s.change refl f _ c.in_ok-judge.ensures.judged r q) in
-    record { does = d; ledger = follows_ledger m e m' d; flash = c.judge.ensures.flash }
+    record { does = d; tied = keeps_tied m e m' d; ledger = follows_ledger m e m' d; flash = c.judge.ensures.flash }
 
 pub returns : goal.returns
 returns g c =
@@ -57,4 +58,4 @@ returns g c =
     let q : r ≡ temperature_answer (pairs_of s.standing.pairs) s.standing.number ut = simp to_z-of_z at c.in_ok-numbers.ensures in
     let e : Entry = Temperature ut r in
     let d : Does m e m' = looks_warm m m' s.phase s.standing s.change refl f _ c.in_ok-judge.ensures.judged r q in
-    record { does = d; ledger = follows_ledger m e m' d; flash = c.judge.ensures.flash }
+    record { does = d; tied = keeps_tied m e m' d; ledger = follows_ledger m e m' d; flash = c.judge.ensures.flash }
